@@ -1,0 +1,14 @@
+pub mod Tests
+pub mod Rows
+pub mod Parts
+pub mod All
+pub mod Lent
+pub mod Turns
+pub mod Members
+pub mod Counts
+pub mod Orders
+pub mod Distinct
+pub mod Sames
+pub mod Arrays
+pub mod Splices
+pub mod Windows

@@ -1,0 +1,40 @@
+-- Laws of splices that follow each other, and of a splice at the start.
+use mathlib.Core.Path.{_≡_, ap, _∙_}
+use mathlib.Core.List.{List, [], _∷_, _++_, append-assoc}
+use Prim.Native.Nat.{ℕ, _+_, _<_, _≤_}
+use native.Mathlib.Nat.{zero-add, add-zero, add-assoc}
+use native.Mathlib.Numerals.{add-one}
+use native.Mathlib.Omega.{arith}
+use lib.ListN.{length, take, drop, set, length-append, take-append-drop}
+use lib.Seq.{set-split, drop-drop, drop-at, take-at, length-take-le}
+use Rattle.lists.specs.Lists.{splice}
+
+-- one element
+pub splice-one : (l : List ℕ) (i x : ℕ) → i < length l → set l i x ≡ splice l i (x ∷ [])
+unfolding splice
+splice-one l i x h = rw (add-one i) (set-split l i x h)
+
+pub splice-none : (l : List ℕ) (i : ℕ) → splice l i [] ≡ l
+unfolding splice
+splice-none l i = rw (add-zero i) (take-append-drop i l)
+
+pub splice-start : (l bs : List ℕ) → splice l 0 bs ≡ bs ++ drop (length bs) l
+unfolding splice
+splice-start l bs = rw (zero-add (length bs))
+
+-- a splice right behind another
+pub splice-next : (l : List ℕ) (i : ℕ) (xs ys : List ℕ) → i + length xs ≤ length l → splice (splice l i xs) (i + length xs) ys ≡ splice l i (xs ++ ys)
+unfolding splice
+splice-next l i xs ys h =
+    let rest = drop (i + length xs) l in
+    let front = take i l ++ xs in
+    let e : length front ≡ i + length xs = length-append (take i l) xs ∙ ap (λ (n : ℕ). n + length xs) (length-take-le i l (omega arith)) in
+    rw (
+      ← append-assoc (take i l) xs rest,
+      take-at front rest (i + length xs) e,
+      ← drop-drop (length ys) (i + length xs) (front ++ rest),
+      drop-at front rest (i + length xs) e,
+      drop-drop (length ys) (i + length xs) l,
+      length-append xs ys,
+    )
+    (simp (append-assoc, add-assoc))

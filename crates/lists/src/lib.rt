@@ -1,0 +1,1 @@
+// Definitions and laws of lists alone: see specs/ and proofs/.

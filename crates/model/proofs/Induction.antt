@@ -1,0 +1,212 @@
+-- The induction over the list: from what each call owes to what holds of the list.
+use Prim.Native.Nat.{ℕ, _<_}
+use mathlib.Core.Path.{_≡_, refl, sym, ap, _∙_}
+use mathlib.Core.Bool.{true, false, true≢false}
+use mathlib.Core.List.{List, [], _∷_}
+use lib.ListN.{length}
+use lib.Dec.{eqb}
+use Rattle.lists.specs.Lists.{part}
+use Rattle.model.specs.declared.Sizes.{Sizes}
+use Rattle.model.specs.declared.Answer.{Answer}
+use Rattle.model.specs.declared.Answer.the-variants.{Done, Cut, Refused}
+use Rattle.model.specs.Sizes.{Device, limits, lengths}
+use Rattle.model.specs.Stores.{applyAll}
+use Rattle.model.specs.State.{State, stopped}
+use Rattle.model.specs.Operations.{format}
+use Rattle.model.specs.Calls.{Call, formatCall, readCall, writeCall, eraseCall, drainCall, recoverCall, Outcome, firstFailed, lentTests, runningTests, tests, refusal, isDone, sizesOf, planOf, doneAnswer, readBuffer, turnedDown, call}
+use Rattle.model.specs.Promise.{Lent, whole, other, Item, MayStand, MayBeLent, Listed, lentOf, leftOf, diskPlace, feed, isRefused, Kept, PartKept, Holds}
+use Rattle.model.specs.Companions.{Claim, Throughout}
+use Rattle.model.proofs.Safe.{Chip, Inv, Pays}
+use Rattle.model.proofs.Calling.{first-passed}
+use Rattle.model.proofs.Outcomes.{cutShort, carriedOut, Ends, refused, cut, done, ends}
+
+-- ---- the plain disk by answers
+
+module _ (z : Sizes) where
+  feed-not : (k : Call) (a : Answer) (plain : List ℕ) → isDone a ≡ false → feed z k a plain ≡ plain
+  unfolding feed
+  feed-not (formatCall y) a plain e = refl
+  feed-not (readCall b off buffer) a plain e = refl
+  feed-not (writeCall b off bytes) a plain e = rw e
+  feed-not eraseCall a plain e = refl
+  feed-not drainCall a plain e = refl
+  feed-not (recoverCall y) a plain e = refl
+
+  -- an erase step alone may be Idle, and it feeds nothing
+  feed-done : (k : Call) (s : State) (plain : List ℕ) → feed z k (doneAnswer k s) plain ≡ feed z k Done plain
+  unfolding feed doneAnswer
+  feed-done (formatCall y) s plain = refl
+  feed-done (readCall b off buffer) s plain = refl
+  feed-done (writeCall b off bytes) s plain = refl
+  feed-done eraseCall s plain = refl
+  feed-done drainCall s plain = refl
+  feed-done (recoverCall y) s plain = refl
+
+  sizes-of : (k : Call) (s : State) → MayStand z k → s .sizes ≡ z → sizesOf k s ≡ z
+  unfolding MayStand sizesOf
+  sizes-of (formatCall y) s m e = absurd m
+  sizes-of (readCall b off buffer) s m e = e
+  sizes-of (writeCall b off bytes) s m e = e
+  sizes-of eraseCall s m e = e
+  sizes-of drainCall s m e = e
+  sizes-of (recoverCall y) s m e = m
+
+-- ---- refusals
+
+-- a call's tests are those of sizes and buffers, and then its own
+lent-first : (k : Call) (s : State) (d : Device) → limits (sizesOf k s) ≡ true → lengths (sizesOf k s) d ≡ false → refusal k s d ≡ 2
+unfolding sizesOf refusal tests runningTests lentTests firstFailed
+lent-first (formatCall y) s d l h = rw (l, h)
+lent-first (readCall b off buffer) s d l h = rw (l, h)
+lent-first (writeCall b off bytes) s d l h = rw (l, h)
+lent-first eraseCall s d l h = rw (l, h)
+lent-first drainCall s d l h = rw (l, h)
+lent-first (recoverCall y) s d l h = rw (l, h)
+
+module _ (z : Sizes) (fits-limits : limits z ≡ true) where
+  pub recover-taken : (s : State) (d : Device) → Chip z d → refusal (recoverCall z) s d ≡ 0
+  unfolding refusal tests lentTests firstFailed
+  recover-taken s d c = rw (fits-limits, c .lens, c .formed)
+
+  -- ---- one call
+
+  kept-cut : (plain : List ℕ) (k : Call) (o : Outcome) → o .answer ≡ Cut → Kept z plain k whole o
+  unfolding Kept isDone isRefused
+  kept-cut plain (formatCall y) o e = tt
+  kept-cut plain (readCall b off buffer) o e = λ h. absurd (true≢false (sym h ∙ rw e))
+  kept-cut plain (writeCall b off bytes) o e = tt
+  kept-cut plain eraseCall o e = tt
+  kept-cut plain drainCall o e = tt
+  kept-cut plain (recoverCall y) o e = rw e
+
+  -- a recover is not turned down
+  kept-refused : (plain : List ℕ) (k : Call) (s : State) (d : Device) (o : Outcome) → MayStand z k → Chip z d → eqb (refusal k s d) 0 ≡ false
+      → o .answer ≡ Refused (refusal k s d) → Kept z plain k whole o
+  unfolding MayStand Kept isDone isRefused
+  kept-refused plain (formatCall y) s d o m c h e = tt
+  kept-refused plain (readCall b off buffer) s d o m c h e = λ q. absurd (true≢false (sym q ∙ rw e))
+  kept-refused plain (writeCall b off bytes) s d o m c h e = tt
+  kept-refused plain eraseCall s d o m c h e = tt
+  kept-refused plain drainCall s d o m c h e = tt
+  kept-refused plain (recoverCall y) s d o m c h e = absurd (true≢false (sym taken ∙ h))
+    where
+      taken : eqb (refusal (recoverCall y) s d) 0 ≡ true
+      taken = rw (m, recover-taken s d c)
+
+  kept-part : (plain : List ℕ) (k : Call) (part : Device) (o : Outcome) → o .answer ≡ Refused 2 → Kept z plain k (other part) o
+  unfolding Kept isDone
+  kept-part plain (formatCall y) part o e = tt
+  kept-part plain (readCall b off buffer) part o e = λ q. absurd (true≢false (sym q ∙ rw e))
+  kept-part plain (writeCall b off bytes) part o e = tt
+  kept-part plain eraseCall part o e = tt
+  kept-part plain drainCall part o e = tt
+  kept-part plain (recoverCall y) part o e = tt
+
+  -- what every call owes, and what a read's buffer owes
+  pub record Owing : Type 0 where
+    pub pays : (k : Call) → MayStand z k → Pays z k
+    pub reads : (b off : ℕ) (buffer : List ℕ) (s : State) (d : Device) (plain : List ℕ) → Inv z s d plain → refusal (readCall b off buffer) s d ≡ 0
+        → readBuffer (readCall b off buffer) s d ≡ part plain (diskPlace z b off) (length buffer)
+
+  module _ (owing : Owing) where
+    kept-done : (plain : List ℕ) (k : Call) (s : State) (d : Device) (o : Outcome) → Inv z s d plain → refusal k s d ≡ 0
+        → o .answer ≡ doneAnswer k s → o .buffer ≡ readBuffer k s d → Kept z plain k whole o
+    unfolding Kept isRefused doneAnswer
+    kept-done plain (formatCall y) s d o i r e f = tt
+    kept-done plain (readCall b off buffer) s d o i r e f = λ h. f ∙ owing .reads b off buffer s d plain i r
+    kept-done plain (writeCall b off bytes) s d o i r e f = tt
+    kept-done plain eraseCall s d o i r e f = tt
+    kept-done plain drainCall s d o i r e f = tt
+    kept-done plain (recoverCall y) s d o i r e f = rw e
+
+    module _ (n : ℕ) (k : Call) (may : MayStand z k) (s : State) (d : Device) (plain : List ℕ) (i : Inv z s d plain) where
+      record After (o : Outcome) : Type 0 where
+        kept : Kept z plain k whole o
+        inv : Inv z (o .state) (o .device) (feed z k (o .answer) plain)
+
+      after-refused : eqb (refusal k s d) 0 ≡ false → After (turnedDown (refusal k s d) k s d)
+      unfolding turnedDown isDone
+      after-refused e = record {
+        kept = kept-refused plain k s d _ may (i .sound .chip) e refl;
+        inv = rw (feed-not z k (Refused (refusal k s d)) plain refl) i;
+      }
+
+      after-cut : refusal k s d ≡ 0 → n < length (planOf k s d .stores) → After (cutShort n k s d)
+      unfolding stopped isDone
+      after-cut r h = record {
+        kept = kept-cut plain k _ refl;
+        inv = rw (feed-not z k Cut plain refl, sizes-of z k s may (i .sizes-are)) (record {
+          sizes-are = i .sizes-are;
+          plain-length = i .plain-length;
+          sound = owing .pays k may s d plain fits-limits i r .cuts n h;
+          live = λ q. absurd (true≢false (sym q));
+        });
+      }
+
+      after-done : refusal k s d ≡ 0 → After (carriedOut n k s d)
+      after-done r = record {
+        kept = kept-done plain k s d _ i r refl refl;
+        inv = rw (feed-done z k s plain, sizes-of z k s may (i .sizes-are)) (owing .pays k may s d plain fits-limits i r .whole);
+      }
+
+      after-call : After (call n k s d)
+      after-call = go (ends n k s d)
+        where
+          go : Ends n k s d → After (call n k s d)
+          go (refused r e) = rw e (after-refused r)
+          go (cut r h e) = rw e (after-cut r h)
+          go (done r e) = rw e (after-done r)
+
+      -- a call lent a part leaves everything as it was
+      part-call : (part : Device) → lengths z part ≡ false → call n k s part ≡ turnedDown 2 k s part
+      unfolding call
+      part-call part h = rw (lent-first k s part (rw (sizes-of z k s may (i .sizes-are)) fits-limits) (rw (sizes-of z k s may (i .sizes-are)) h))
+
+      -- any call of the list
+      pub called : (l : Lent) → MayBeLent z l
+          → let o = call n k s (lentOf l d) in
+          Kept z plain k l o × PartKept l o × Inv z (o .state) (leftOf l d o) (feed z k (o .answer) plain)
+      unfolding MayBeLent lentOf leftOf PartKept turnedDown isDone
+      called whole h = (after-call .kept, tt, after-call .inv)
+      called (other part) h =
+          rw (part-call part h) (kept-part plain k part (turnedDown 2 k s part) refl, (refl, refl), rw (feed-not z k (Refused 2) plain refl) i)
+
+    -- a claim about each call is one about the list
+    pub throughout : (claim : Claim)
+        → ((n : ℕ) (k : Call) → MayStand z k → (s : State) (d : Device) (plain : List ℕ) → Inv z s d plain → (l : Lent) → claim plain k l (call n k s (lentOf l d)))
+        → (xs : List Item) → Listed z xs → (s : State) (d : Device) (plain : List ℕ) → Inv z s d plain → Throughout claim z xs s d plain
+    unfolding Listed Throughout
+    throughout claim each [] l s d plain i = tt
+    throughout claim each (x ∷ xs) l s d plain i =
+        let c = called (x .allowance) (x .request) (l .0) s d plain i (x .lent) (l .1) in
+        (each (x .allowance) (x .request) (l .0) s d plain i (x .lent), throughout claim each xs (l .2) _ _ _ (c .2))
+
+    pub holds : (xs : List Item) → Listed z xs → (s : State) (d : Device) (plain : List ℕ) → Inv z s d plain → Holds z xs s d plain
+    unfolding Listed Holds
+    holds [] l s d plain i = tt
+    holds (x ∷ xs) l s d plain i =
+        let c = called (x .allowance) (x .request) (l .0) s d plain i (x .lent) (l .1) in
+        (c .0, c .1, holds xs (l .2) _ _ _ (c .2))
+
+-- ---- the start
+
+-- what a Done format leaves
+pub record Formatted (z : Sizes) (d : Device) (o : Outcome) : Type 0 where
+  pub within-limits : limits z ≡ true
+  pub whole-lent : lengths z d ≡ true
+  pub state-is : o .state ≡ format z .state
+  pub device-is : o .device ≡ applyAll z d (format z .stores)
+
+pub formatted : (z : Sizes) (n : ℕ) (s : State) (d : Device) → call n (formatCall z) s d .answer ≡ Done → Formatted z d (call n (formatCall z) s d)
+unfolding refusal tests lentTests turnedDown planOf sizesOf isDone
+formatted z n s d h = go (ends n (formatCall z) s d)
+  where
+    never : (o : Outcome) → call n (formatCall z) s d ≡ o → isDone (o .answer) ≡ false → Formatted z d (call n (formatCall z) s d)
+    never o e q = absurd (true≢false (ap isDone (sym h) ∙ ap (λ (x : Outcome). isDone (x .answer)) e ∙ q))
+
+    go : Ends n (formatCall z) s d → Formatted z d (call n (formatCall z) s d)
+    go (refused r e) = never _ e refl
+    go (cut r k e) = never _ e refl
+    go (done r e) =
+        let one = first-passed 0 (limits z) _ r in
+        rw e (record { within-limits = one .0; whole-lent = first-passed 1 (lengths z d) _ (one .1) .0; state-is = refl; device-is = refl })

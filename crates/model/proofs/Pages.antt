@@ -1,0 +1,254 @@
+-- Programming a log page by page: what stands in its bucket on the way. Each page keeps the chip well formed.
+use Prim.Native.Nat.{ℕ, zero, suc, _+_, _-_, _*_, _≤_, _<_}
+use mathlib.Core.Path.{_≡_, refl, sym, ap, _∙_}
+use mathlib.Core.Logic.{_⊎_, inl, inr, _≢_}
+use mathlib.Core.Bool.{true, false}
+use mathlib.Core.List.{List, _++_}
+use native.Mathlib.Omega.{arith}
+use native.Mathlib.Decide.{ℕ-discrete}
+use lib.ListN.{length, drop, getD, length-append, length-take, length-drop, List·getD-append}
+use lib.Seq.{getD-take, getD-drop}
+use borrow.Author.Tests.{eqb-true}
+use Rattle.lists.specs.Lists.{ff, splice}
+use Rattle.lists.proofs.Tests.{and-left, and-right}
+use Rattle.lists.proofs.Parts.{At, at, outside, inside, length-ff}
+use Rattle.model.specs.declared.Sizes.{Sizes}
+use Rattle.model.specs.Sizes.{Device, bucketSize, pagesFor}
+use Rattle.model.specs.Stores.{Store, program, erase, apply, tagOf, bucketBytes, diskBytes, pageBytes}
+use Rattle.model.specs.Spare.{blank, writeKind, kind, ordinal, pages, epoch, back, offset, extent, tagBytes}
+use Rattle.model.specs.Image.{used, epochOf, backOf, isWrite}
+use Rattle.model.proofs.Safe.{Chip}
+use Rattle.model.proofs.Bounds.{Bounds}
+use Rattle.model.proofs.Tags.{length-tag, kind-tag, ordinal-tag, pages-tag, epoch-tag, back-tag, offset-tag, extent-tag, zeros-tag, blank-tag, blank-ff}
+use Rattle.model.proofs.Frames.{Lengths, Fits, page-in-bucket, tag-programmed, tag-other-page, bytes-programmed, disk-programmed}
+use Rattle.model.proofs.Rules.{Fields, Follows, begins, goes-on}
+use Rattle.model.proofs.Formed.{kind-shared, epoch-shared, back-shared, epoch-used, epoch-unused}
+use Rattle.model.proofs.FormedKept.{chip-lengths, chip-formed, chip-erase, chip-program, Next, erased-unused}
+use Rattle.model.proofs.Show.{Same, epochOf-same, same-program, same-erase}
+
+module _ (z : Sizes) (bytes : List ℕ) (o : ℕ) where
+  pub length-page : length (pageBytes z bytes o) ≡ z .s
+  unfolding pageBytes
+  length-page = simp (length-take, length-append, length-ff (z .s)) (omega arith)
+
+  -- byte j of page o of a log
+  pub getD-page : (j : ℕ) → j < z .s → o * z .s + j < length bytes → getD (pageBytes z bytes o) j 0 ≡ getD bytes (o * z .s + j) 0
+  unfolding pageBytes
+  getD-page j hj hl =
+      getD-take (z .s) (drop (o * z .s) bytes ++ ff (z .s)) j 0 hj
+      ∙ List·getD-append (drop (o * z .s) bytes) (ff (z .s)) 0 j (rw (length-drop (o * z .s) bytes) (omega arith))
+      ∙ getD-drop (o * z .s) bytes j 0
+
+-- a log of b that finds its place in the cache bucket c, from page `first` on
+pub record Log (z : Sizes) (c first k e b off : ℕ) (bytes : List ℕ) : Type 0 where
+  pub bucket-in : c < z .c
+  pub kind-low : 1 ≤ k
+  pub kind-high : k ≤ 3
+  pub epoch-low : 1 ≤ e
+  pub epoch-high : e < 4294967296
+  pub back-in : b < z .b
+  pub some-bytes : 1 ≤ length bytes
+  pub bytes-in : off + length bytes ≤ bucketSize z
+  pub pages-in : first + pagesFor z (length bytes) ≤ z .p
+  pub whole : (k ≡ writeKind) ⊎ ((off ≡ 0) × (length bytes ≡ bucketSize z))
+
+module _ {z : Sizes} (bounds : Bounds z) {c first k e b off : ℕ} {bytes : List ℕ} (log : Log z c first k e b off bytes) where
+  -- ---- the tags
+
+  abbrev pub tagAt : ℕ → List ℕ
+  tagAt o = tagBytes k o (pagesFor z (length bytes)) e b off (length bytes)
+
+  pub kind-at : (o : ℕ) → kind (tagAt o) ≡ k
+  kind-at o = kind-tag k o (pagesFor z (length bytes)) e b off (length bytes)
+
+  pub ordinal-at : (o : ℕ) → ordinal (tagAt o) ≡ o
+  ordinal-at o = ordinal-tag k o (pagesFor z (length bytes)) e b off (length bytes)
+
+  pub pages-at : (o : ℕ) → pages (tagAt o) ≡ pagesFor z (length bytes)
+  pages-at o = pages-tag k o (pagesFor z (length bytes)) e b off (length bytes)
+
+  pub epoch-at : (o : ℕ) → epoch (tagAt o) ≡ e
+  epoch-at o = epoch-tag k o (pagesFor z (length bytes)) e b off (length bytes) (log .epoch-high)
+
+  pub back-at : (o : ℕ) → back (tagAt o) ≡ b
+  back-at o = back-tag k o (pagesFor z (length bytes)) e b off (length bytes) (omega (arith, log .back-in, bounds .b-high))
+
+  pub offset-at : (o : ℕ) → offset (tagAt o) ≡ off
+  offset-at o = offset-tag k o (pagesFor z (length bytes)) e b off (length bytes) (omega (arith, log .bytes-in, log .some-bytes, bounds .size-high))
+
+  pub extent-at : (o : ℕ) → extent (tagAt o) ≡ length bytes
+  extent-at o = extent-tag k o (pagesFor z (length bytes)) e b off (length bytes) (log .some-bytes) (omega (arith, log .bytes-in, bounds .size-high))
+
+  pub blank-at : (o : ℕ) → blank (tagAt o) ≡ false
+  blank-at o = blank-tag k o (pagesFor z (length bytes)) e b off (length bytes) (omega (arith, log .kind-high))
+
+  fields-at : (o : ℕ) → o < pagesFor z (length bytes) → Fields z (tagAt o)
+  fields-at o ho = record {
+    kind-low = rw (kind-at o) (log .kind-low);
+    kind-high = rw (kind-at o) (log .kind-high);
+    epoch-low = rw (epoch-at o) (log .epoch-low);
+    back-below = rw (back-at o) (log .back-in);
+    zeros-are = zeros-tag k o (pagesFor z (length bytes)) e b off (length bytes);
+    pages-are = pages-at o ∙ ap (pagesFor z) (sym (extent-at o));
+    bytes-inside = rw (offset-at o, extent-at o) (log .bytes-in);
+    ordinal-below = rw (ordinal-at o, pages-at o) ho;
+    whole = go (log .whole);
+  }
+    where
+      go : (k ≡ writeKind) ⊎ ((off ≡ 0) × (length bytes ≡ bucketSize z))
+          → (kind (tagAt o) ≡ writeKind) ⊎ ((offset (tagAt o) ≡ 0) × (extent (tagAt o) ≡ bucketSize z))
+      go (inl q) = inl (kind-at o ∙ q)
+      go (inr q) = inr (offset-at o ∙ q .0, extent-at o ∙ q .1)
+
+  follows-at : (o : ℕ) → Follows (tagAt o) (tagAt (suc o))
+  follows-at o = record {
+    before-used = blank-at o;
+    kind-same = kind-at (suc o) ∙ sym (kind-at o);
+    epoch-same = epoch-at (suc o) ∙ sym (epoch-at o);
+    back-same = back-at (suc o) ∙ sym (back-at o);
+    goes = goes-on (ordinal-at (suc o) ∙ omega (arith, ordinal-at o)) (pages-at (suc o) ∙ sym (pages-at o)) (offset-at (suc o) ∙ sym (offset-at o))
+        (extent-at (suc o) ∙ sym (extent-at o));
+  }
+
+  -- ---- the pages
+
+  abbrev pub pageAt : ℕ → Store
+  pageAt o = program c (first + o) (pageBytes z bytes o) (tagAt o)
+
+  pub fits-at : (o : ℕ) → o < pagesFor z (length bytes) → Fits z (pageAt o)
+  fits-at o h = (log .bucket-in, omega (arith, log .pages-in), length-page z bytes o, length-tag k o (pagesFor z (length bytes)) e b off (length bytes))
+
+  pub alike-at : (o : ℕ) → o < pagesFor z (length bytes) → (d : Device) → Chip z d → (c' : ℕ) → c' ≢ c → Same z d (apply z d (pageAt o)) c'
+  alike-at o h d chip c' ne = same-program z d (chip-lengths z chip) c (first + o) (pageBytes z bytes o) (tagAt o) (fits-at o h) c' ne
+
+  pub disk-at : (o : ℕ) → o < pagesFor z (length bytes) → (d : Device) → Chip z d → (b' i : ℕ)
+      → getD (diskBytes z (apply z d (pageAt o)) b') i 0 ≡ getD (diskBytes z d b') i 0
+  disk-at o h d chip b' i = ap (λ (l : List ℕ). getD l i 0)
+      (disk-programmed z d (chip-lengths z chip) c (first + o) (pageBytes z bytes o) (tagAt o) (fits-at o h) b')
+
+  -- the bucket into which a later log goes: b's Write bucket of that epoch, whose last page is the one before
+  pub record Started (d : Device) : Type 0 where
+    pub is-write : isWrite z d c ≡ true
+    pub back-is : backOf z d c ≡ b
+    pub epoch-is : epochOf z d c ≡ e
+    pub last-used : blank (tagOf z d c (first - 1)) ≡ false
+    pub kind-is : k ≡ writeKind
+
+  module _ {d₀ : Device} (chip₀ : Chip z d₀) (started : 0 < first → Started d₀) where
+    -- the first o pages are programmed
+    pub record Stage (o : ℕ) (d : Device) : Type 0 where
+      pub chip : Chip z d
+      pub before : (p : ℕ) → p < first → tagOf z d c p ≡ tagOf z d₀ c p
+      pub written : (q : ℕ) → q < o → tagOf z d c (first + q) ≡ tagAt q
+      pub rest : (p : ℕ) → first + o ≤ p → p < z .p → tagOf z d c p ≡ ff 16
+      pub old-bytes : (j : ℕ) → j < first * z .s → getD (bucketBytes z d c) j 0 ≡ getD (bucketBytes z d₀ c) j 0
+      pub content : (j : ℕ) → j < o * z .s → j < length bytes → getD (bucketBytes z d c) (first * z .s + j) 0 ≡ getD bytes j 0
+      pub others : (c' : ℕ) → c' < z .c → c' ≢ c → epochOf z d c' ≢ e
+
+    -- another bucket's erase
+    pub stage-erase : (o : ℕ) (d : Device) (x : ℕ) → x < z .c → c ≢ x → o ≤ pagesFor z (length bytes) → Stage o d → Stage o (apply z d (erase x))
+    stage-erase o d x hx ne ho s =
+        let lens = chip-lengths z (s .chip) in
+        let sm = same-erase z d lens x hx c ne in
+        record {
+          chip = chip-erase z (bounds .p-low) d x hx (s .chip);
+          before = λ p hp. sm .tags-same p (omega (arith, log .pages-in)) ∙ s .before p hp;
+          written = λ q hq. sm .tags-same (first + q) (omega (arith, log .pages-in)) ∙ s .written q hq;
+          rest = λ p hp hp'. sm .tags-same p hp' ∙ s .rest p hp hp';
+          old-bytes = λ j hj. rw (sm .bytes-same) (s .old-bytes j hj);
+          content = λ j hj hl. rw (sm .bytes-same) (s .content j hj hl);
+          others = λ c' hc' ne'. apart c' hc' ne' (ℕ-discrete c' x);
+        }
+      where
+        apart : (c' : ℕ) → c' < z .c → c' ≢ c → Dec (c' ≡ x) → epochOf z (apply z d (erase x)) c' ≢ e
+        apart c' hc' ne' (yes q) r =
+            omega (
+              arith,
+              log .epoch-low,
+              sym r ∙ ap (epochOf z (apply z d (erase x))) q
+                  ∙ epoch-unused z (apply z d (erase x)) x (erased-unused z (bounds .p-low) d (chip-lengths z (s .chip)) x hx),
+            )
+        apart c' hc' ne' (no q) r = s .others c' hc' ne'
+            (sym (epochOf-same z (bounds .p-low) d (apply z d (erase x)) c' (same-erase z d (chip-lengths z (s .chip)) x hx c' q)) ∙ r)
+
+    -- what the next page stands behind
+    last-kind : (h : 0 < first) → kind (tagOf z d₀ c (first - 1)) ≡ k
+    unfolding isWrite
+    last-kind h =
+        let t = started h in
+        kind-shared z d₀ c (λ j hj. chip-formed z chip₀ .pages-fit c j (log .bucket-in) hj) (first - 1) (omega (arith, log .pages-in)) (t .last-used)
+        ∙ eqb-true _ _ (and-right (used z d₀ c) _ (t .is-write)) ∙ sym (t .kind-is)
+
+    last-back : (h : 0 < first) → back (tagOf z d₀ c (first - 1)) ≡ b
+    unfolding backOf
+    last-back h =
+        let t = started h in
+        back-shared z d₀ c (λ j hj. chip-formed z chip₀ .pages-fit c j (log .bucket-in) hj) (first - 1) (omega (arith, log .pages-in)) (t .last-used) ∙ t .back-is
+
+    last-epoch : (h : 0 < first) → epoch (tagOf z d₀ c (first - 1)) ≡ e
+    unfolding isWrite
+    last-epoch h =
+        let t = started h in
+        epoch-shared z d₀ c (λ j hj. chip-formed z chip₀ .pages-fit c j (log .bucket-in) hj) (first - 1) (omega (arith, log .pages-in)) (t .last-used)
+        ∙ sym (epoch-used z d₀ c (and-left (used z d₀ c) _ (t .is-write))) ∙ t .epoch-is
+
+    next-fits : (o : ℕ) (d : Device) → o < pagesFor z (length bytes) → Stage o d → (m : ℕ) → first + o ≡ m → Next z d c m (tagAt o)
+    next-fits zero d ho s zero q = (ordinal-at 0, rw (epoch-at 0) (log .epoch-high), λ c' hc ne r. s .others c' hc ne (r ∙ epoch-at 0))
+    next-fits (suc o) d ho s zero q = absurd (omega arith)
+    next-fits (suc o) d ho s (suc m) q =
+        let w : tagOf z d c m ≡ tagAt o = ap (tagOf z d c) (omega arith) ∙ s .written o (omega arith) in
+        rw w (follows-at o)
+    next-fits zero d ho s (suc m) q =
+        let h : 0 < first = omega arith in
+        let w : tagOf z d c m ≡ tagOf z d₀ c (first - 1) = s .before m (omega arith) ∙ ap (tagOf z d₀ c) (omega arith) in
+        rw w record {
+          before-used = started h .last-used;
+          kind-same = kind-at 0 ∙ sym (last-kind h);
+          epoch-same = epoch-at 0 ∙ sym (last-epoch h);
+          back-same = back-at 0 ∙ sym (last-back h);
+          goes = begins (ordinal-at 0) (kind-at 0 ∙ started h .kind-is);
+        }
+
+    -- the next page
+    pub stage-next : (o : ℕ) (d : Device) → o < pagesFor z (length bytes) → Stage o d → Stage (suc o) (apply z d (pageAt o))
+    stage-next o d ho s = record {
+      chip = chip-program z (bounds .p-low) d c (first + o) (pageBytes z bytes o) (tagAt o) (fits-at o ho) (s .chip)
+          (ap blank (s .rest (first + o) (omega arith) (omega (arith, log .pages-in))) ∙ blank-ff)
+          (fields-at o ho) (next-fits o d ho s (first + o) refl);
+      before = λ p hp. other p (λ q. omega arith) ∙ s .before p hp;
+      written = λ q hq. put q hq (ℕ-discrete q o);
+      rest = λ p hp hp'. other p (λ q. omega arith) ∙ s .rest p (omega arith) hp';
+      old-bytes = λ j hj. ap (λ (l : List ℕ). getD l j 0) programmed ∙ old j hj (spliced j);
+      content = λ j hj hl. ap (λ (l : List ℕ). getD l (first * z .s + j) 0) programmed ∙ new j hj hl (spliced (first * z .s + j));
+      others = λ c' hc ne r. s .others c' hc ne (sym (epochOf-same z (bounds .p-low) d (apply z d (pageAt o)) c' (alike-at o ho d (s .chip) c' ne)) ∙ r);
+    }
+      where
+        lens : Lengths z d
+        lens = chip-lengths z (s .chip)
+
+        other : (p : ℕ) → p ≢ first + o → tagOf z (apply z d (pageAt o)) c p ≡ tagOf z d c p
+        other p ne = tag-other-page z d lens c (first + o) (pageBytes z bytes o) (tagAt o) (fits-at o ho) p ne
+
+        put : (q : ℕ) → q < suc o → Dec (q ≡ o) → tagOf z (apply z d (pageAt o)) c (first + q) ≡ tagAt q
+        put q hq (yes r) = rw r (tag-programmed z d lens c (first + o) (pageBytes z bytes o) (tagAt o) (fits-at o ho))
+        put q hq (no r) = other (first + q) (λ t. r (omega arith)) ∙ s .written q (omega arith)
+
+        programmed : bucketBytes z (apply z d (pageAt o)) c ≡ splice (bucketBytes z d c) ((first + o) * z .s) (pageBytes z bytes o)
+        programmed = bytes-programmed z d lens c (first + o) (pageBytes z bytes o) (tagAt o) (fits-at o ho)
+
+        spliced : (j : ℕ) → At (bucketBytes z d c) ((first + o) * z .s) (pageBytes z bytes o) j
+        spliced j = at (bucketBytes z d c) ((first + o) * z .s) (pageBytes z bytes o)
+            (page-in-bucket z d lens c (first + o) (pageBytes z bytes o) (log .bucket-in) (omega (arith, log .pages-in)) (length-page z bytes o)) j
+
+        old : (j : ℕ) → j < first * z .s → At (bucketBytes z d c) ((first + o) * z .s) (pageBytes z bytes o) j
+            → getD (splice (bucketBytes z d c) ((first + o) * z .s) (pageBytes z bytes o)) j 0 ≡ getD (bucketBytes z d₀ c) j 0
+        old j hj (outside u q) = q ∙ s .old-bytes j hj
+        old j hj (inside m hm em q) = absurd (omega arith)
+
+        new : (j : ℕ) → j < suc o * z .s → j < length bytes → At (bucketBytes z d c) ((first + o) * z .s) (pageBytes z bytes o) (first * z .s + j)
+            → getD (splice (bucketBytes z d c) ((first + o) * z .s) (pageBytes z bytes o)) (first * z .s + j) 0 ≡ getD bytes j 0
+        new j hj hl (outside (inl u) q) = q ∙ s .content j (omega arith) hl
+        new j hj hl (outside (inr u) q) = absurd (omega (arith, length-page z bytes o))
+        new j hj hl (inside m hm em q) =
+            let ej : o * z .s + m ≡ j = omega arith in
+            q ∙ getD-page z bytes o m (omega (arith, length-page z bytes o)) (omega arith) ∙ ap (λ (x : ℕ). getD bytes x 0) ej

@@ -1,0 +1,104 @@
+-- The invariant of the promise: what holds of chip and disk between any two stores, and of the state between any two calls.
+use Prim.Native.Nat.{ℕ, zero, suc, _+_, _-_, _*_, _≤_, _<_}
+use mathlib.Core.Path.{_≡_}
+use mathlib.Core.Logic.{_⊎_, _≢_}
+use mathlib.Core.Bool.{Bool, true, false, _&&_}
+use mathlib.Core.Option.{Option, none, some}
+use mathlib.Core.List.{List, [], _∷_, map}
+use lib.ListN.{length, take, getD}
+use lib.Dec.{leb, ltb, eqb}
+use Rattle.lists.specs.Lists.{if_then_else_, part}
+use Rattle.model.specs.declared.Sizes.{Sizes}
+use Rattle.model.specs.declared.Answer.the-variants.{Done}
+use Rattle.model.specs.Sizes.{Device, limits, lengths, bucketSize}
+use Rattle.model.specs.Stores.{Store, erase, apply, applyAll, tagOf, bucketBytes, diskBytes}
+use Rattle.model.specs.Spare.{offset, extent}
+use Rattle.model.specs.Image.{epochOf, wellFormed, backOf, isWrite, isDirty, complete, endsLog, logBytes}
+use Rattle.model.specs.State.{State, holds, cacheOf, topEpoch, stateFits}
+use Rattle.model.specs.Calls.{Call, refusal, planOf, readBuffer}
+use Rattle.model.specs.Promise.{MayStand, feed}
+use Rattle.model.proofs.Views.{View, SafeAt}
+
+module _ (z : Sizes) where
+  -- ---- what a device shows
+
+  -- page k of c ends a complete log over byte i
+  unfoldable pub covers : Device → ℕ → ℕ → ℕ → Bool
+  covers d c k i = endsLog z d c k && (leb (offset (tagOf z d c k)) i && ltb i (offset (tagOf z d c k) + extent (tagOf z d c k)))
+
+  -- byte i by the complete logs in the first n pages of c: the last of them that has it
+  unfoldable pub found : Device → ℕ → ℕ → ℕ → Option ℕ
+  found d c zero i = none
+  found d c (suc k) i = if covers d c k i then some (getD (logBytes z d c k) (i - offset (tagOf z d c k)) 0) else found d c k i
+
+  -- what the cache bucket c, as a Write bucket of b, gives byte i of b
+  unfoldable pub givesOf : Device → ℕ → ℕ → ℕ → Option ℕ
+  givesOf d c b i = if ltb c (z .c) && (isWrite z d c && eqb (backOf z d c) b) then found d c (z .p) i else none
+
+  -- c is a complete copy of b
+  unfoldable pub holdsOf : Device → ℕ → ℕ → Bool
+  holdsOf d c b = ltb c (z .c) && (complete z d c && eqb (backOf z d c) b)
+
+  abbrev pub view : Device → View
+  view d = record {
+    gives = givesOf d;
+    age = epochOf z d;
+    holds = holdsOf d;
+    dirty = isDirty z d;
+    bytes = λ c i. getD (bucketBytes z d c) i 0;
+    disk = λ b i. getD (diskBytes z d b) i 0;
+  }
+
+  -- byte i of the back-end bucket b on the plain disk
+  unfoldable pub plainAt : List ℕ → ℕ → ℕ → ℕ
+  plainAt plain b i = getD (part plain (b * bucketSize z) (bucketSize z)) i 0
+
+  -- every confirmed byte is on the chip or the disk, where recovery finds it
+  unfoldable pub Safe : List ℕ → Device → Type 0
+  Safe plain d = (b : ℕ) → SafeAt (view d) b (plainAt plain b)
+
+  -- recovery accepts the chip
+  pub record Chip (d : Device) : Type 0 where
+    pub lens : lengths z d ≡ true
+    pub formed : wellFormed z d ≡ true
+    pub epochs : topEpoch z d < 4294967296
+
+  -- between any two stores
+  pub record Sound (plain : List ℕ) (d : Device) : Type 0 where
+    pub chip : Chip d
+    pub safe : Safe plain d
+
+  -- ---- along a run of stores
+
+  -- Q holds before the first store, between any two and after the last
+  abbrev pub Along : (Device → Type 0) → Device → List Store → Type 0
+  Along Q d [] = Q d
+  Along Q d (s ∷ ss) = Q d × Along Q (apply z d s) ss
+
+  -- every erase of the GC queue, in its order, keeps what is confirmed
+  abbrev pub Ready : List ℕ → List ℕ → Device → Type 0
+  Ready plain gs d = Along (Safe plain) d (map erase gs)
+
+  -- ---- between two calls
+
+  -- of a running state: number 5 holds, the GC queue may be erased at any time, and queued buckets are the newest of their back-end bucket
+  pub record Live (s : State) (d : Device) (plain : List ℕ) : Type 0 where
+    pub fits : stateFits s d ≡ true
+    pub ready : Ready plain (s .gc) d
+    pub newest-reads : (b : ℕ) → holds b (s .reads) ≡ true → (c : ℕ) → holdsOf d c b ≡ true → epochOf z d c ≤ epochOf z d (cacheOf b (s .reads))
+    pub newest-writes : (b : ℕ) → holds b (s .writes) ≡ true → (c i : ℕ) → c ≢ cacheOf b (s .writes)
+        → (givesOf d c b i ≡ none) ⊎ (epochOf z d c ≤ epochOf z d (cacheOf b (s .writes)))
+
+  pub record Inv (s : State) (d : Device) (plain : List ℕ) : Type 0 where
+    pub sizes-are : s .sizes ≡ z
+    pub plain-length : length plain ≡ z .b * bucketSize z
+    pub sound : Sound plain d
+    pub live : s .running ≡ true → Live s d plain
+
+  -- what a call that is not refused owes: each cut leaves the plain disk as it was, the whole plan moves it on, and a read gives its bytes
+  pub record Owed (k : Call) (s : State) (d : Device) (plain : List ℕ) : Type 0 where
+    pub cuts : (n : ℕ) → n < length (planOf k s d .stores) → Sound plain (applyAll z d (take n (planOf k s d .stores)))
+    pub whole : Inv (planOf k s d .state) (applyAll z d (planOf k s d .stores)) (feed z k Done plain)
+
+  abbrev pub Pays : Call → Type 0
+  Pays k = (s : State) (d : Device) (plain : List ℕ) → limits z ≡ true → Inv s d plain → refusal k s d ≡ 0 → Owed k s d plain

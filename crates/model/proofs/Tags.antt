@@ -1,0 +1,69 @@
+-- What the spare bytes that a program writes say.
+use Prim.Native.Nat.{ℕ, _+_, _-_, _*_, _/_, _%_, _≤_, _<_}
+use mathlib.Core.Path.{_≡_, refl, sym, ap, _∙_}
+use mathlib.Core.List.{List}
+use mathlib.Core.Bool.{true, false}
+use native.Mathlib.Omega.{arith}
+use native.Mathlib.Nat.{div-div-eq-div-mul, div-add-mod', mod-eq-of-lt}
+use lib.ListN.{length}
+use borrow.Author.Tests.{ne-eqb}
+use Rattle.lists.specs.Lists.{every, same, ff}
+use Rattle.lists.proofs.Sames.{same-equal}
+use Rattle.model.specs.Spare.{two, four, blank, kind, ordinal, pages, epoch, back, offset, extent, zeros, tagBytes}
+
+digits : (e a b c x y w : ℕ) → a * 256 + x ≡ e → b * 256 + y ≡ a → c * 256 + w ≡ b → ((c * 256 + w) * 256 + y) * 256 + x ≡ e
+digits e a b c x y w p q r = omega arith
+
+module _ (k o n e b f l : ℕ) where
+  pub length-tag : length (tagBytes k o n e b f l) ≡ 16
+  unfolding tagBytes
+  length-tag = refl
+
+  pub kind-tag : kind (tagBytes k o n e b f l) ≡ k
+  unfolding kind tagBytes
+  kind-tag = refl
+
+  pub ordinal-tag : ordinal (tagBytes k o n e b f l) ≡ o
+  unfolding ordinal tagBytes
+  ordinal-tag = refl
+
+  pub pages-tag : pages (tagBytes k o n e b f l) ≡ n
+  unfolding pages tagBytes
+  pages-tag = refl
+
+  pub epoch-tag : e < 4294967296 → epoch (tagBytes k o n e b f l) ≡ e
+  unfolding epoch four two tagBytes
+  epoch-tag h =
+      let q : e / 65536 ≡ e / 256 / 256 = sym (div-div-eq-div-mul e 256 256) in
+      let t : e / 16777216 ≡ e / 256 / 256 / 256 = sym (div-div-eq-div-mul e 65536 256) ∙ ap (λ (x : ℕ). x / 256) q in
+      let s : e / 16777216 % 256 ≡ e / 16777216 = mod-eq-of-lt (omega arith) in
+      rw (s, t, q) (digits e (e / 256) (e / 256 / 256) (e / 256 / 256 / 256) _ _ _ (div-add-mod' e 256) (div-add-mod' (e / 256) 256)
+      (div-add-mod' (e / 256 / 256) 256))
+
+  pub back-tag : b < 65536 → back (tagBytes k o n e b f l) ≡ b
+  unfolding back two tagBytes
+  back-tag h = omega arith
+
+  pub offset-tag : f < 65536 → offset (tagBytes k o n e b f l) ≡ f
+  unfolding offset two tagBytes
+  offset-tag h = omega arith
+
+  pub extent-tag : 1 ≤ l → l ≤ 65536 → extent (tagBytes k o n e b f l) ≡ l
+  unfolding extent two tagBytes
+  extent-tag p h = omega arith
+
+  pub zeros-tag : zeros (tagBytes k o n e b f l) ≡ true
+  unfolding zeros tagBytes every
+  zeros-tag = refl
+
+  pub blank-tag : k < 4 → blank (tagBytes k o n e b f l) ≡ false
+  unfolding blank tagBytes same
+  blank-tag h = rw (ne-eqb k 255 (λ q. omega arith))
+
+pub blank-ff : blank (ff 16) ≡ true
+unfolding blank same
+blank-ff = refl
+
+pub blank-true : (tag : List ℕ) → blank tag ≡ true → tag ≡ ff 16
+unfolding blank
+blank-true tag h = same-equal tag (ff 16) h

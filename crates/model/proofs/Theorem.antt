@@ -1,0 +1,57 @@
+-- Demand 3 and its companions, proved.
+use Prim.Native.Nat.{ℕ}
+use mathlib.Core.Path.{_≡_, sym, subst}
+use mathlib.Core.Bool.{true}
+use Rattle.model.specs.declared.Sizes.{Sizes}
+use Rattle.model.specs.declared.Answer.the-variants.{Done}
+use Rattle.model.specs.Sizes.{Device, limits}
+use Rattle.model.specs.State.{State}
+use Rattle.model.specs.Calls.{Call, formatCall, readCall, writeCall, eraseCall, drainCall, recoverCall, call}
+use Rattle.model.specs.Promise.{MayStand, NothingLost}
+use Rattle.model.specs.Companions.{Always, NeverDistrusted, DrainedDiskIsPlain}
+use Rattle.model.proofs.Safe.{Inv, Pays}
+use Rattle.model.proofs.Calling.{erase-pays, read-gives}
+use Rattle.model.proofs.Format.{formatted-inv}
+use Rattle.model.proofs.Read.{read-pays}
+use Rattle.model.proofs.Write.{write-pays}
+use Rattle.model.proofs.Drain.{drain-pays, drain-settles}
+use Rattle.model.proofs.Recover.{recover-pays}
+use Rattle.model.proofs.Induction.{Owing, holds, throughout, formatted}
+use Rattle.model.proofs.Companions.{trusted, drained}
+
+pays : (z : Sizes) (k : Call) → MayStand z k → Pays z k
+unfolding MayStand
+pays z (formatCall y) m = absurd m
+pays z (readCall b off buffer) m = read-pays z b off buffer
+pays z (writeCall b off bytes) m = write-pays z b off bytes
+pays z eraseCall m = erase-pays z
+pays z drainCall m = drain-pays z
+pays z (recoverCall y) m = subst (λ (x : Sizes). Pays z (recoverCall x)) (sym m) (recover-pays z)
+
+owing : (z : Sizes) (fits : limits z ≡ true) → Owing z fits
+owing z fits = record { pays = pays z; reads = read-gives z fits }
+
+-- the invariant holds where the list starts
+start : (z : Sizes) (n : ℕ) (s : State) (d : Device) → call n (formatCall z) s d .answer ≡ Done
+    → Inv z (call n (formatCall z) s d .state) (call n (formatCall z) s d .device) (d .disk)
+start z n s d h =
+    let f = formatted z n s d h in
+    rw (f .state-is, f .device-is) (formatted-inv z (f .within-limits) d (f .whole-lent))
+
+pub nothing-lost : NothingLost
+unfolding NothingLost
+nothing-lost z n s d xs h l =
+    let fits = formatted z n s d h .within-limits in
+    holds z fits (owing z fits) xs l _ _ (d .disk) (start z n s d h)
+
+pub never-distrusted : NeverDistrusted
+unfolding NeverDistrusted Always
+never-distrusted z n s d xs h l =
+    let fits = formatted z n s d h .within-limits in
+    throughout z fits (owing z fits) _ (trusted z fits) xs l _ _ (d .disk) (start z n s d h)
+
+pub drained-disk-is-plain : DrainedDiskIsPlain
+unfolding DrainedDiskIsPlain Always
+drained-disk-is-plain z n s d xs h l =
+    let fits = formatted z n s d h .within-limits in
+    throughout z fits (owing z fits) _ (drained z (drain-settles z fits)) xs l _ _ (d .disk) (start z n s d h)

@@ -1,0 +1,124 @@
+-- An accepted write: its priority, the count and the halving keep the invariant. And plans whose last store moves the plain disk on.
+use Prim.Native.Nat.{ℕ, zero, suc, _+_, _/_, _≤_, _<_}
+use mathlib.Core.Path.{_≡_, refl, sym, ap, _∙_, subst}
+use mathlib.Core.Logic.{_⊎_, inl, inr}
+use mathlib.Core.Bool.{Bool, true, false}
+use mathlib.Core.List.{List, [], _∷_, _++_, map}
+use native.Mathlib.Omega.{arith}
+use lib.ListN.{length, take, length-map}
+use lib.Dec.{leb}
+use borrow.Author.Tests.{leb-true, leb-false, le-leb, eqb-true}
+use Rattle.lists.specs.Lists.{if_then_else_, times}
+use Rattle.lists.proofs.Tests.{true-or-false}
+use Rattle.model.specs.declared.Sizes.{Sizes}
+use Rattle.model.specs.declared.Entry.{Entry}
+use Rattle.model.specs.Sizes.{Device}
+use Rattle.model.specs.Stores.{Store, apply, applyAll}
+use Rattle.model.specs.State.{State, entry, isOf, caches}
+use Rattle.model.specs.Steps.{Plan, _then_}
+use Rattle.model.specs.Operations.{halved, prioritised, accept}
+use Rattle.model.proofs.Safe.{Along, Sound}
+use Rattle.model.proofs.Prefix.{applyAll-append}
+use Rattle.model.proofs.QueuesGrown.{Keeps, caches-map}
+use Rattle.model.proofs.QueuesShown.{priorityFits, Writes, writes-map}
+use Rattle.model.proofs.Inside.{Inside}
+use Rattle.model.proofs.Steps.{Good}
+
+-- ---- a plan that moves the plain disk on
+
+pub record Moves (z : Sizes) (plain plain' : List ℕ) (p : Plan) (d : Device) : Type 0 where
+  pub cuts : (n : ℕ) → n < length (p .stores) → Sound z plain (applyAll z d (take n (p .stores)))
+  pub whole : Inside z plain' (p .state) (applyAll z d (p .stores))
+
+cuts-behind : (z : Sizes) (Q : Device → Type 0) (d : Device) (ss ts : List Store) → Along z Q d ss → ((n : ℕ) → n < length ts → Q (applyAll z (applyAll z d ss) (take n ts)))
+    → (n : ℕ) → n < length (ss ++ ts) → Q (applyAll z d (take n (ss ++ ts)))
+unfolding applyAll
+cuts-behind z Q d [] ts a c n h = c n h
+cuts-behind z Q d (s ∷ ss) ts a c zero h = a .0
+cuts-behind z Q d (s ∷ ss) ts a c (suc n) h = cuts-behind z Q (apply z d s) ss ts (a .1) c n (omega arith)
+
+pub then-moves : (z : Sizes) (plain plain' : List ℕ) (p : Plan) (f : State → Plan) (d : Device) → Good z plain p d → Moves z plain plain' (f (p .state)) (applyAll z d (p .stores))
+    → Moves z plain plain' (p then f) d
+unfolding _then_
+then-moves z plain plain' p f d g m = record {
+  cuts = cuts-behind z (Sound z plain) d (p .stores) (f (p .state) .stores) (g .0) (m .cuts);
+  whole = subst (λ (e : Device). Inside z plain' (f (p .state) .state) e) (sym (applyAll-append z d (p .stores) (f (p .state) .stores))) (m .whole);
+}
+
+-- ---- priorities
+
+keeps-halved : Keeps halved
+unfolding halved entry
+keeps-halved e = (refl, refl)
+
+keeps-prioritised : (b p : ℕ) → Keeps (prioritised b p)
+unfolding prioritised entry isOf
+keeps-prioritised b p e = go (true-or-false (isOf b e))
+  where
+    go : (isOf b e ≡ true) ⊎ (isOf b e ≡ false) → (prioritised b p e .back ≡ e .back) × (prioritised b p e .cache ≡ e .cache)
+    go (inl h) = rw h (sym (eqb-true (e .back) b h), refl)
+    go (inr h) = rw h (refl, refl)
+
+module _ (z : Sizes) where
+  fits-halved : (e : Entry) → priorityFits z e ≡ true → priorityFits z (halved e) ≡ true
+  unfolding priorityFits halved entry
+  fits-halved e h = le-leb (e .priority / 2) (z .p) (omega (arith, leb-true (e .priority) (z .p) h))
+
+  fits-prioritised : (b p : ℕ) → p ≤ z .p → (e : Entry) → priorityFits z e ≡ true → priorityFits z (prioritised b p e) ≡ true
+  unfolding priorityFits prioritised entry
+  fits-prioritised b p hp e h = go (true-or-false (isOf b e))
+    where
+      go : (isOf b e ≡ true) ⊎ (isOf b e ≡ false) → priorityFits z (prioritised b p e) ≡ true
+      go (inl q) = rw q (le-leb p (z .p) hp)
+      go (inr q) = rw q h
+
+  -- ---- the count and the queue
+
+  -- queues alike but for priorities
+  record Like (l m : List Entry) : Type 0 where
+    same-caches : caches m ≡ caches l
+    same-length : length m ≡ length l
+    same-writes : (d : Device) → Writes z d l → Writes z d m
+
+  like-map : (f : Entry → Entry) → Keeps f → ((e : Entry) → priorityFits z e ≡ true → priorityFits z (f e) ≡ true) → (l : List Entry) → Like l (map f l)
+  like-map f k t l = record { same-caches = caches-map f k l; same-length = length-map l f; same-writes = λ d w. writes-map z d l f k t w }
+
+  like-after : {l m n : List Entry} → Like l m → Like m n → Like l n
+  like-after a b = record {
+    same-caches = b .same-caches ∙ a .same-caches;
+    same-length = b .same-length ∙ a .same-length;
+    same-writes = λ d w. b .same-writes d (a .same-writes d w);
+  }
+
+  pub accept-inside : (plain : List ℕ) (b p : ℕ) → p ≤ z .p → (s : State) (d : Device) → Inside z plain s d → Inside z plain (accept b p s) d
+  unfolding accept
+  accept-inside plain b p hp s d j = record {
+    sizes-are = j .sizes-are;
+    plain-length = j .plain-length;
+    chip = j .chip;
+    ready = j .ready;
+    once = λ c. ap (λ (l : List ℕ). times c (caches (s .reads)) + times c l + times c (s .gc) + times c (s .free)) (like .same-caches) ∙ j .once c;
+    reads = j .reads;
+    writes = like .same-writes d (j .writes);
+    few-reads = j .few-reads;
+    few-writes = rw (like .same-length) (j .few-writes);
+    free-blank = j .free-blank;
+    accepted-low = low (true-or-false (leb 15 (s .accepted)));
+    next-above = j .next-above;
+    next-low = j .next-low;
+    next-high = j .next-high;
+  }
+    where
+      set : Like (s .writes) (map (prioritised b p) (s .writes))
+      set = like-map (prioritised b p) (keeps-prioritised b p) (fits-prioritised b p hp) (s .writes)
+
+      like : Like (s .writes) (accept b p s .writes)
+      like = go (leb 15 (s .accepted))
+        where
+          go : (t : Bool) → Like (s .writes) (if t then map halved (map (prioritised b p) (s .writes)) else map (prioritised b p) (s .writes))
+          go true = like-after set (like-map halved keeps-halved fits-halved (map (prioritised b p) (s .writes)))
+          go false = set
+
+      low : (leb 15 (s .accepted) ≡ true) ⊎ (leb 15 (s .accepted) ≡ false) → (if leb 15 (s .accepted) then 0 else s .accepted + 1) ≤ 15
+      low (inl h) = rw h (omega arith)
+      low (inr h) = rw h (omega (arith, leb-false 15 (s .accepted) h))

@@ -1,0 +1,110 @@
+-- Images made by the page rules, what a bucket is, and its complete logs.
+use Prim.Native.Nat.{ℕ, zero, suc, _+_, _-_, _*_}
+use mathlib.Core.Bool.{Bool, true, false, not, _&&_, _||_}
+use mathlib.Core.List.{List, [], _∷_, map}
+use lib.Dec.{leb, ltb, eqb}
+use Rattle.lists.specs.Lists.{if_then_else_, every, within, below, allBelow, countBelow, keep, distinct, splice, part}
+use Rattle.model.specs.declared.Sizes.{Sizes}
+use Rattle.model.specs.Sizes.{Device, bucketSize, pagesFor}
+use Rattle.model.specs.Stores.{tagOf, bucketBytes}
+use Rattle.model.specs.Spare.{blank, writeKind, dirtyKind, kind, ordinal, pages, epoch, back, offset, extent, zeros}
+
+-- "continues the page before it with the same fields and an ordinal one higher"
+unfoldable pub continues : List ℕ → List ℕ → Bool
+continues before tag = every
+    (eqb (ordinal tag) (ordinal before + 1)
+    ∷ eqb (pages tag) (pages before)
+    ∷ eqb (offset tag) (offset before)
+    ∷ eqb (extent tag) (extent before) ∷ [])
+
+-- "blank pages come only at the end; non-blank pages share state, epoch and back-end bucket"; "no second ordinal 0" but in Write buckets
+unfoldable pub follows : List ℕ → List ℕ → Bool
+follows before tag = every
+    (not (blank before)
+    ∷ eqb (kind tag) (kind before)
+    ∷ eqb (epoch tag) (epoch before)
+    ∷ eqb (back tag) (back before)
+    ∷ (if eqb (ordinal tag) 0 then eqb (kind tag) writeKind else continues before tag) ∷ [])
+
+module _ (z : Sizes) where
+  -- "Read and Dirty buckets hold offset 0, length P × S"
+  unfoldable pub spansBucket : List ℕ → Bool
+  spansBucket tag = eqb (offset tag) 0 && eqb (extent tag) (bucketSize z)
+
+  -- the rules for one non-blank page
+  unfoldable pub fieldsFit : List ℕ → Bool
+  fieldsFit tag = every
+      (within 1 3 (kind tag)
+      ∷ leb 1 (epoch tag)
+      ∷ ltb (back tag) (z .b)
+      ∷ zeros tag
+      ∷ eqb (pages tag) (pagesFor z (extent tag))
+      ∷ leb (offset tag + extent tag) (bucketSize z)
+      ∷ ltb (ordinal tag) (pages tag)
+      ∷ (eqb (kind tag) writeKind || spansBucket tag) ∷ [])
+
+  -- the rules for page k of the cache bucket c; a bucket's first page has ordinal 0
+  unfoldable pub pageFits : Device → ℕ → ℕ → Bool
+  pageFits d c zero = blank (tagOf z d c zero) || (fieldsFit (tagOf z d c zero) && eqb (ordinal (tagOf z d c zero)) 0)
+  pageFits d c (suc k) = blank (tagOf z d c (suc k)) || (fieldsFit (tagOf z d c (suc k)) && follows (tagOf z d c k) (tagOf z d c (suc k)))
+
+  unfoldable pub bucketFits : Device → ℕ → Bool
+  bucketFits d c = allBelow (z .p) (pageFits d c)
+
+  -- a bucket with a programmed page
+  unfoldable pub used : Device → ℕ → Bool
+  used d c = not (blank (tagOf z d c 0))
+
+  -- its epoch, or 0 if it has none
+  unfoldable pub epochOf : Device → ℕ → ℕ
+  epochOf d c = if used d c then epoch (tagOf z d c 0) else 0
+
+  -- number 4: "An image is well formed, made by the page rules, when .. no two buckets share an epoch."
+  unfoldable pub wellFormed : Device → Bool
+  wellFormed d = allBelow (z .c) (bucketFits d) && distinct (map (epochOf d) (keep (used d) (below (z .c))))
+
+  -- ---- what a bucket is
+
+  unfoldable pub backOf : Device → ℕ → ℕ
+  backOf d c = back (tagOf z d c 0)
+
+  unfoldable pub isWrite : Device → ℕ → Bool
+  isWrite d c = used d c && eqb (kind (tagOf z d c 0)) writeKind
+
+  -- a Read or Dirty bucket
+  unfoldable pub isCopy : Device → ℕ → Bool
+  isCopy d c = used d c && not (eqb (kind (tagOf z d c 0)) writeKind)
+
+  unfoldable pub isDirty : Device → ℕ → Bool
+  isDirty d c = eqb (kind (tagOf z d c 0)) dirtyKind
+
+  -- "A Read or Dirty bucket is complete when all P pages are programmed."
+  unfoldable pub complete : Device → ℕ → Bool
+  complete d c = isCopy d c && not (blank (tagOf z d c (z .p - 1)))
+
+  unfoldable pub pageBlank : Device → ℕ → ℕ → Bool
+  pageBlank d c k = blank (tagOf z d c k)
+
+  -- the blank pages of a bucket
+  unfoldable pub blanks : Device → ℕ → ℕ
+  blanks d c = countBelow (z .p) (pageBlank d c)
+
+  -- ---- complete logs: "A log lacking pages is abandoned and ignored."
+
+  -- page k is the last page of a log that has all its pages
+  unfoldable pub endsLog : Device → ℕ → ℕ → Bool
+  endsLog d c k = not (blank (tagOf z d c k)) && eqb (ordinal (tagOf z d c k) + 1) (pages (tagOf z d c k))
+
+  -- the bytes of the log that ends at page k
+  unfoldable pub logBytes : Device → ℕ → ℕ → List ℕ
+  logBytes d c k = part (bucketBytes z d c) ((k + 1 - pages (tagOf z d c k)) * z .s) (extent (tagOf z d c k))
+
+  -- the complete logs in the first n pages of the bucket c, in order over the base
+  unfoldable pub mergeTo : Device → ℕ → List ℕ → ℕ → List ℕ
+  mergeTo d c base zero = base
+  mergeTo d c base (suc k) =
+      if endsLog d c k then splice (mergeTo d c base k) (offset (tagOf z d c k)) (logBytes d c k) else mergeTo d c base k
+
+  -- "merge its complete logs in order over" a base
+  unfoldable pub merge : Device → ℕ → List ℕ → List ℕ
+  merge d c base = mergeTo d c base (z .p)

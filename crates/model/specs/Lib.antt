@@ -1,0 +1,13 @@
+pub mod Sizes
+pub mod Stores
+pub mod Spare
+pub mod Image
+pub mod State
+pub mod Steps
+pub mod Operations
+pub mod Recover
+pub mod Calls
+pub mod Driving
+pub mod Promise
+pub mod Companions
+pub mod StoresMade

@@ -1,0 +1,109 @@
+-- Demand 3: the list of calls, its plain disk, and what is promised of the list as a whole.
+use Prim.Native.Nat.{ℕ, _+_, _*_}
+use mathlib.Core.Path.{_≡_}
+use mathlib.Core.Bool.{Bool, true, false}
+use mathlib.Core.List.{List, [], _∷_}
+use lib.ListN.{length}
+use Rattle.lists.specs.Lists.{if_then_else_, splice, part}
+use Rattle.model.specs.declared.Sizes.{Sizes}
+use Rattle.model.specs.declared.Answer.{Answer}
+use Rattle.model.specs.declared.Answer.the-variants.{Done, Idle, Cut, Refused}
+use Rattle.model.specs.Sizes.{Device, lengths, bucketSize}
+use Rattle.model.specs.State.{State}
+use Rattle.model.specs.Calls.{Call, formatCall, readCall, writeCall, eraseCall, drainCall, recoverCall, Outcome, isDone, call}
+
+-- ---- the list
+
+-- what a call is lent: the whole chip and disk, or "only a part of chip or disk"
+pub data Lent : Type 0 where
+  whole : Lent
+  other : Device → Lent
+
+-- one call of the list, with its allowance
+pub record Item : Type 0 where
+  pub allowance : ℕ
+  pub request : Call
+  pub lent : Lent
+
+-- "Its calls are read, write, erase step, drain and recover, with any fields and allowances; recover has the sizes of that format."
+unfoldable pub MayStand : Sizes → Call → Type 0
+MayStand z (formatCall y) = ⊥
+MayStand z (readCall b off buffer) = Unit {0}
+MayStand z (writeCall b off bytes) = Unit {0}
+MayStand z eraseCall = Unit {0}
+MayStand z drainCall = Unit {0}
+MayStand z (recoverCall y) = y ≡ z
+
+-- a part has a length that is not its own
+unfoldable pub MayBeLent : Sizes → Lent → Type 0
+MayBeLent z whole = Unit {0}
+MayBeLent z (other d) = lengths z d ≡ false
+
+unfoldable pub Listed : Sizes → List Item → Type 0
+Listed z [] = Unit {0}
+Listed z (x ∷ xs) = MayStand z (x .request) × MayBeLent z (x .lent) × Listed z xs
+
+-- the buffers that a call gets, and the chip and disk that it leaves: those that it was not lent are not touched
+unfoldable pub lentOf : Lent → Device → Device
+lentOf whole d = d
+lentOf (other part) d = part
+
+unfoldable pub leftOf : Lent → Device → Outcome → Device
+leftOf whole d o = o .device
+leftOf (other part) d o = d
+
+-- ---- the plain disk
+
+-- where a byte of the back-end bucket b lies on the disk
+unfoldable pub diskPlace : Sizes → (b off : ℕ) → ℕ
+diskPlace z b off = b * bucketSize z + off
+
+-- "fed each call's operation, fields, data and answer": "A write answered Done lays its data from byte b × P × S + offset on; all other bytes stay.
+-- A write that is refused or answered Cut changes nothing." "Every other call, whatever its answer, changes nothing."
+unfoldable pub feed : Sizes → Call → Answer → List ℕ → List ℕ
+feed z (formatCall y) a plain = plain
+feed z (readCall b off buffer) a plain = plain
+feed z (writeCall b off bytes) a plain = if isDone a then splice plain (diskPlace z b off) bytes else plain
+feed z eraseCall a plain = plain
+feed z drainCall a plain = plain
+feed z (recoverCall y) a plain = plain
+
+-- ---- the promise
+
+unfoldable pub isRefused : Answer → Bool
+isRefused Done = false
+isRefused Idle = false
+isRefused Cut = false
+isRefused (Refused n) = true
+
+-- "every read answered Done gives exactly the bytes that the plain disk has there by then"; "no recovery lent the whole chip and disk is ever refused,
+-- whatever its allowance"
+unfoldable pub Kept : Sizes → List ℕ → Call → Lent → Outcome → Type 0
+Kept z plain (formatCall y) l o = Unit {0}
+Kept z plain (readCall b off buffer) l o = isDone (o .answer) ≡ true → o .buffer ≡ part plain (diskPlace z b off) (length buffer)
+Kept z plain (writeCall b off bytes) l o = Unit {0}
+Kept z plain eraseCall l o = Unit {0}
+Kept z plain drainCall l o = Unit {0}
+Kept z plain (recoverCall y) whole o = isRefused (o .answer) ≡ false
+Kept z plain (recoverCall y) (other part) o = Unit {0}
+
+-- a call that was lent a part "gets number 2" and leaves the part as it was
+unfoldable pub PartKept : Lent → Outcome → Type 0
+PartKept whole o = Unit {0}
+PartKept (other part) o = (o .answer ≡ Refused 2) × (o .device ≡ part)
+
+-- the list as a whole: each call is given the state, chip and disk that the last one left
+unfoldable pub Holds : Sizes → List Item → State → Device → List ℕ → Type 0
+Holds z [] s d plain = Unit {0}
+Holds z (x ∷ xs) s d plain =
+    let o = call (x .allowance) (x .request) s (lentOf (x .lent) d) in
+    Kept z plain (x .request) (x .lent) o
+    × PartKept (x .lent) o
+    × Holds z xs (o .state) (leftOf (x .lent) d o) (feed z (x .request) (o .answer) plain)
+
+-- "The list starts from the state, chip and disk that a Done format left, whatever bytes the disk had."
+unfoldable pub NothingLost : Type 0
+NothingLost = (z : Sizes) (n : ℕ) (s : State) (d : Device) (xs : List Item)
+    → call n (formatCall z) s d .answer ≡ Done
+    → Listed z xs
+    → let o = call n (formatCall z) s d in Holds z xs (o .state) (o .device) (d .disk)

@@ -1,0 +1,123 @@
+-- The engine's state, its queues, and number 5.
+use Prim.Native.Nat.{ℕ, zero, suc, _+_}
+use mathlib.Core.Bool.{Bool, true, false, not, _&&_}
+use mathlib.Core.List.{List, [], _∷_, _++_, map}
+use lib.ListN.{length}
+use lib.Dec.{leb, ltb, eqb}
+use Rattle.lists.specs.Lists.{if_then_else_, every, times, allBelow, maxBelow, all, keep, distinct}
+use Rattle.model.specs.declared.Sizes.{Sizes}
+use Rattle.model.specs.declared.Entry.{Entry}
+use Rattle.model.specs.Sizes.{Device}
+use Rattle.model.specs.Image.{complete, isWrite, backOf, blanks, epochOf}
+
+-- "The state holds the sizes, a running mark, read and write queues, GC and free queues, priorities, the count of accepted writes and the next epoch."
+-- The first of the read queue is the least recent, the first of each other queue the first in.
+pub record State : Type 0 where
+  pub sizes : Sizes
+  pub running : Bool
+  pub reads : List Entry
+  pub writes : List Entry
+  pub gc : List ℕ
+  pub free : List ℕ
+  pub accepted : ℕ
+  pub next : ℕ
+
+-- the same state, not running
+unfoldable pub stopped : State → State
+stopped s = record { sizes = s .sizes; running = false; reads = s .reads; writes = s .writes; gc = s .gc; free = s .free; accepted = s .accepted; next = s .next }
+
+-- the same state with other queues
+unfoldable pub moved : State → (reads writes : List Entry) → (gc free : List ℕ) → State
+moved s r w g f = record { sizes = s .sizes; running = s .running; reads = r; writes = w; gc = g; free = f; accepted = s .accepted; next = s .next }
+
+-- ---- queues of back-end buckets
+
+unfoldable pub entry : ℕ → ℕ → ℕ → Entry
+entry b c p = record { back = b; cache = c; priority = p }
+
+unfoldable pub isOf : ℕ → Entry → Bool
+isOf b e = eqb (e .back) b
+
+-- the back-end bucket b is in the queue
+unfoldable pub holds : ℕ → List Entry → Bool
+holds b [] = false
+holds b (e ∷ l) = if isOf b e then true else holds b l
+
+-- its cache bucket, or 0
+unfoldable pub cacheOf : ℕ → List Entry → ℕ
+cacheOf b [] = 0
+cacheOf b (e ∷ l) = if isOf b e then e .cache else cacheOf b l
+
+-- its cache bucket, if it has one
+unfoldable pub cachesOf : ℕ → List Entry → List ℕ
+cachesOf b l = if holds b l then cacheOf b l ∷ [] else []
+
+unfoldable pub isOther : ℕ → Entry → Bool
+isOther b e = not (isOf b e)
+
+-- the queue without b
+unfoldable pub without : ℕ → List Entry → List Entry
+without b l = keep (isOther b) l
+
+unfoldable pub cacheBucket : Entry → ℕ
+cacheBucket e = e .cache
+
+unfoldable pub backBucket : Entry → ℕ
+backBucket e = e .back
+
+unfoldable pub caches : List Entry → List ℕ
+caches l = map cacheBucket l
+
+unfoldable pub backs : List Entry → List ℕ
+backs l = map backBucket l
+
+-- ---- number 5
+
+-- all cache buckets in queues, queue after queue
+unfoldable pub queued : State → List ℕ
+queued s = caches (s .reads) ++ (caches (s .writes) ++ (s .gc ++ s .free))
+
+unfoldable pub isBelow : ℕ → ℕ → Bool
+isBelow n c = ltb c n
+
+unfoldable pub onceIn : List ℕ → ℕ → Bool
+onceIn l c = eqb (times c l) 1
+
+-- "queues hold each cache bucket once": so their lengths add up to C, and no number is above
+unfoldable pub eachOnce : ℕ → List ℕ → Bool
+eachOnce n l = every (eqb (length l) n ∷ all (isBelow n) l ∷ allBelow n (onceIn l) ∷ [])
+
+module _ (z : Sizes) (d : Device) where
+  -- a read queue's entry: the spare fields agree and the bucket is complete
+  unfoldable pub readAgrees : Entry → Bool
+  readAgrees e = complete z d (e .cache) && eqb (backOf z d (e .cache)) (e .back)
+
+  -- a write queue's entry: the spare fields agree and the priority is not above P
+  unfoldable pub writeAgrees : Entry → Bool
+  writeAgrees e = every (isWrite z d (e .cache) ∷ eqb (backOf z d (e .cache)) (e .back) ∷ leb (e .priority) (z .p) ∷ [])
+
+  -- a free bucket has blank pages alone
+  unfoldable pub allBlank : ℕ → Bool
+  allBlank c = eqb (blanks z d c) (z .p)
+
+-- the largest epoch of a bucket on the chip, or 0
+unfoldable pub topEpoch : Sizes → Device → ℕ
+topEpoch z d = maxBelow (z .c) (epochOf z d)
+
+-- number 5: none of "queues do not hold each cache bucket once, a queue is too long, maps a back-end bucket twice or disagrees with
+-- spare fields, a queued read bucket is incomplete, a free bucket has a non-blank page, a priority is above P, the write count above 15,
+-- or next epoch is 0, is not above all present or exceeds 4,294,967,296"
+unfoldable pub stateFits : State → Device → Bool
+stateFits s d = every
+    (eachOnce (s .sizes .c) (queued s)
+    ∷ leb (length (s .reads)) (s .sizes .r)
+    ∷ leb (length (s .writes)) (s .sizes .w)
+    ∷ distinct (backs (s .reads))
+    ∷ distinct (backs (s .writes))
+    ∷ all (readAgrees (s .sizes) d) (s .reads)
+    ∷ all (writeAgrees (s .sizes) d) (s .writes)
+    ∷ all (allBlank (s .sizes) d) (s .free)
+    ∷ leb (s .accepted) 15
+    ∷ leb 1 (s .next)
+    ∷ ltb (topEpoch (s .sizes) d) (s .next)
+    ∷ leb (s .next) 4294967296 ∷ [])
