@@ -1,0 +1,32 @@
+use Rattle.geometry.proofs.Passed.{limits-hold}
+use Rattle.model.specs.Calls.{firstFailed, lentTests}
+use mathlib.Core.Path.{sym, _∙_}
+use borrow.Author.Needs.{needs}
+use Rattle.geometry.proofs.lent_refusal.Statement.{statement}
+use Rattle.geometry.proofs.lent_refusal.Tie as tie
+use Rattle.geometry.proofs.lent_refusal.Reads as reads
+use Rattle.geometry.proofs.lent_refusal.Lts as lts
+use Rattle.geometry.proofs.lengths.Reads as lengths-reads
+use Rattle.geometry.proofs.limits.Reads as limits-reads
+
+limits-requires : tie.Need-limits-requires
+limits-requires c κs = search needs
+
+lengths-requires : tie.Need-lengths-requires
+lengths-requires c κs = limits-hold _ (sym (c .before .limits .ensures) ∙ c .if1 .taken)
+
+returns : tie.Need-returns
+unfolding firstFailed lentTests
+returns c = rw (sym (c .before .before .before .limits .ensures) ∙ c .before .before .if1 .taken, sym (c .before .lengths .ensures) ∙ c .if2 .taken)
+
+returns-2 : tie.Need-returns-2
+unfolding firstFailed lentTests
+returns-2 c = rw (sym (c .before .before .before .limits .ensures) ∙ c .before .before .if1 .taken, sym (c .before .lengths .ensures) ∙ c .if2 .left)
+
+returns-3 : tie.Need-returns-3
+unfolding firstFailed lentTests
+returns-3 c = rw (sym (c .before .limits .ensures) ∙ c .if1 .left)
+
+pub lent-refusal-spec : {M : Type 1} → statement M
+lent-refusal-spec =
+    tie.close (tie.spec limits-requires lengths-requires returns returns-2 returns-3)

@@ -1,0 +1,13 @@
+use Rattle.lists.specs.Lists.{within}
+use mathlib.Core.Path.{refl}
+use Rattle.geometry.proofs.within.Statement.{statement}
+use Rattle.geometry.proofs.within.Tie as tie
+use Rattle.geometry.proofs.within.Reads as reads
+use Rattle.geometry.proofs.within.Lts as lts
+
+returns : tie.Need-returns
+unfolding within
+returns c = refl
+
+pub within-spec : {M : Type 1} → statement M
+within-spec = tie.close (tie.spec returns)

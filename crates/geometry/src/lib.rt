@@ -1,0 +1,68 @@
+// Numbers 1 and 2 of the table: the limits of the sizes, and the lengths of the lent areas.
+use model::Sizes;
+ghost use mathlib.Core.Path.{_≡_};
+ghost use mathlib.Core.List.{[], _∷_};
+ghost use Prim.Native.Nat.{_+_, _≤_};
+ghost use lib.Dec.{leb};
+ghost use Rattle.lists.specs.Lists.{every, within};
+ghost use Rattle.model.specs.Sizes.{limits, lengths, pagesFor};
+ghost use Rattle.model.specs.Calls.{firstFailed, lentTests};
+ghost use Rattle.geometry.specs.Geometry.{device, Limits};
+
+fn within(low: usize, high: usize, n: usize) -> bool
+    ensures { λ r. ⌜ r ≡ within low high n ⌝ }
+{
+    (low <= n) & (n <= high)
+}
+
+// R + W is added up only where both are within their limits: the sum then fits.
+fn queues_within(z: Sizes) -> bool
+    ensures { λ r. ⌜ r ≡ every (within 1 64 (z .r) ∷ within 1 64 (z .w) ∷ leb (z .r + z .w + 1) (z .c) ∷ []) ⌝ }
+{
+    if within(1, 64, z.r) {
+        if within(1, 64, z.w) {
+            z.r + z.w + 1 <= z.c
+        } else {
+            false
+        }
+    } else {
+        false
+    }
+}
+
+// Number 1.
+pub fn limits(z: Sizes) -> bool
+    ensures { λ r. ⌜ r ≡ limits z ⌝ }
+{
+    within(4, 1024, z.s)
+        & (within(1, 64, z.p) & (within(3, 256, z.c) & (within(1, 65535, z.b) & queues_within(z))))
+}
+
+// Number 2, once number 1 is passed: the limits keep the products within the machine's numbers.
+fn lengths(z: Sizes, flash: &[u8], spare: &[u8], disk: &[u8]) -> bool
+    requires { ⌜ Limits z ⌝ }
+    ensures { λ r. ⌜ r ≡ lengths z (device (now (flash .entry)) (now (spare .entry)) (now (disk .entry))) ⌝ }
+{
+    let bucket = z.p * z.s;
+    let chip = (flash.len() == z.c * bucket) & (spare.len() == z.c * z.p * 16);
+    chip & (disk.len() == z.b * bucket)
+}
+
+// The number of the first of the two that is not passed, or 0.
+pub fn lent_refusal(z: Sizes, flash: &[u8], spare: &[u8], disk: &[u8]) -> u8
+    ensures { λ r. ⌜ r ≡ firstFailed (lentTests z (device (now (flash .entry)) (now (spare .entry)) (now (disk .entry)))) ⌝ }
+{
+    if limits(z) {
+        if lengths(z, flash, spare, disk) { 0 } else { 2 }
+    } else {
+        1
+    }
+}
+
+// The pages that a log of n bytes takes, where n is at most a bucket's.
+pub fn pages_for(z: Sizes, n: usize) -> usize
+    requires { ⌜ Limits z × (n ≤ 65536) ⌝ }
+    ensures { λ r. ⌜ r ≡ pagesFor z n ⌝ }
+{
+    (n + z.s - 1) / z.s
+}

@@ -1,0 +1,29 @@
+use mathlib.Core.Path.{sym, ap, _∙_}
+use lib.Dec.{eqb}
+use borrow.Author.Needs.{needs}
+use Rattle.model.specs.Spare.{kind}
+use Rattle.model.specs.Image.{isDirty}
+use Rattle.spare.proofs.Looked.{seen-programmed, seen-erased}
+use Rattle.spare.specs.Fields.{fields}
+use Rattle.image.proofs.is_dirty.Statement.{statement}
+use Rattle.image.proofs.is_dirty.Tie as tie
+
+look-requires : tie.Need-look-requires
+look-requires c κs = search needs
+
+enum-told : tie.Need-enum-told
+enum-told c = search needs
+
+enum-known-page : tie.Need-enum-known-page
+enum-known-page c = search needs
+
+returns : tie.Need-returns
+unfolding isDirty kind
+returns c = rw (seen-erased _ (sym (c .before .before .look .ensures) ∙ c .enum-told .given .1))
+
+returns-2 : tie.Need-returns-2
+unfolding isDirty kind fields
+returns-2 c = let e = seen-programmed _ _ (sym (c .before .before .before .before .look .ensures) ∙ c .before .before .page .given .1) in ap (λ f. eqb (f .kind) 3) (sym (e .1))
+
+pub is-dirty-spec : {M : Type 1} → statement M
+is-dirty-spec = tie.close (tie.spec look-requires enum-told enum-known-page returns returns-2)

@@ -1,0 +1,143 @@
+// What a cache bucket is, read from its spare bytes.
+// A fact of a bucket depends on the spare area alone: contracts state it of `spareOnly`, a device with nothing else, and the laws of
+// `proofs/SameSpare` carry it over to every device with the same spare area.
+use model::Sizes;
+use spare::Seen;
+ghost use mathlib.Core.Path.{_≡_};
+ghost use Prim.Native.Nat.{_<_};
+ghost use Rattle.model.specs.Stores.{tagOf};
+ghost use Rattle.model.specs.Image.{used, epochOf, backOf, isWrite, isCopy, isDirty, complete, pageBlank, blanks};
+ghost use Rattle.model.specs.State.{allBlank};
+ghost use Rattle.spare.specs.Fields.{seen};
+ghost use Rattle.image.specs.Chip.{Chip, spareOnly};
+
+// A look at page k of the bucket c.
+pub fn look(z: Sizes, c: usize, k: usize, spare: &[u8]) -> Seen
+    requires { ⌜ Chip z (now spare) ⌝ }
+    requires { ⌜ c < z .c ⌝ }
+    requires { ⌜ k < z .p ⌝ }
+    ensures { λ r. ⌜ r ≡ seen (tagOf z (spareOnly (now (spare .entry))) c k) ⌝ }
+{
+    spare::look_at(spare, c * z.p + k)
+}
+
+pub fn used(z: Sizes, c: usize, spare: &[u8]) -> bool
+    requires { ⌜ Chip z (now spare) ⌝ }
+    requires { ⌜ c < z .c ⌝ }
+    ensures { λ r. ⌜ r ≡ used z (spareOnly (now (spare .entry))) c ⌝ }
+{
+    let page = look(z, c, 0, spare);
+    match page {
+        Seen::Blank => false,
+        Seen::Programmed(_) => true,
+    }
+}
+
+pub fn epoch_of(z: Sizes, c: usize, spare: &[u8]) -> u32
+    requires { ⌜ Chip z (now spare) ⌝ }
+    requires { ⌜ c < z .c ⌝ }
+    ensures { λ r. ⌜ r ≡ epochOf z (spareOnly (now (spare .entry))) c ⌝ }
+{
+    let page = look(z, c, 0, spare);
+    match page {
+        Seen::Blank => 0,
+        Seen::Programmed(f) => f.epoch,
+    }
+}
+
+// The back-end bucket; the erased bytes of a blank bucket read as 65,535, which is below no B.
+pub fn back_of(z: Sizes, c: usize, spare: &[u8]) -> u16
+    requires { ⌜ Chip z (now spare) ⌝ }
+    requires { ⌜ c < z .c ⌝ }
+    ensures { λ r. ⌜ r ≡ backOf z (spareOnly (now (spare .entry))) c ⌝ }
+{
+    let page = look(z, c, 0, spare);
+    match page {
+        Seen::Blank => 65535,
+        Seen::Programmed(f) => f.back,
+    }
+}
+
+pub fn is_write(z: Sizes, c: usize, spare: &[u8]) -> bool
+    requires { ⌜ Chip z (now spare) ⌝ }
+    requires { ⌜ c < z .c ⌝ }
+    ensures { λ r. ⌜ r ≡ isWrite z (spareOnly (now (spare .entry))) c ⌝ }
+{
+    let page = look(z, c, 0, spare);
+    match page {
+        Seen::Blank => false,
+        Seen::Programmed(f) => f.kind == 2,
+    }
+}
+
+pub fn is_copy(z: Sizes, c: usize, spare: &[u8]) -> bool
+    requires { ⌜ Chip z (now spare) ⌝ }
+    requires { ⌜ c < z .c ⌝ }
+    ensures { λ r. ⌜ r ≡ isCopy z (spareOnly (now (spare .entry))) c ⌝ }
+{
+    let page = look(z, c, 0, spare);
+    match page {
+        Seen::Blank => false,
+        Seen::Programmed(f) => f.kind != 2,
+    }
+}
+
+pub fn is_dirty(z: Sizes, c: usize, spare: &[u8]) -> bool
+    requires { ⌜ Chip z (now spare) ⌝ }
+    requires { ⌜ c < z .c ⌝ }
+    ensures { λ r. ⌜ r ≡ isDirty z (spareOnly (now (spare .entry))) c ⌝ }
+{
+    let page = look(z, c, 0, spare);
+    match page {
+        Seen::Blank => false,
+        Seen::Programmed(f) => f.kind == 3,
+    }
+}
+
+pub fn page_blank(z: Sizes, c: usize, k: usize, spare: &[u8]) -> bool
+    requires { ⌜ Chip z (now spare) ⌝ }
+    requires { ⌜ c < z .c ⌝ }
+    requires { ⌜ k < z .p ⌝ }
+    ensures { λ r. ⌜ r ≡ pageBlank z (spareOnly (now (spare .entry))) c k ⌝ }
+{
+    let page = look(z, c, k, spare);
+    match page {
+        Seen::Blank => true,
+        Seen::Programmed(_) => false,
+    }
+}
+
+// A Read or Dirty bucket with all its pages programmed.
+pub fn complete(z: Sizes, c: usize, spare: &[u8]) -> bool
+    requires { ⌜ Chip z (now spare) ⌝ }
+    requires { ⌜ c < z .c ⌝ }
+    ensures { λ r. ⌜ r ≡ complete z (spareOnly (now (spare .entry))) c ⌝ }
+{
+    let copy = is_copy(z, c, spare);
+    copy & !page_blank(z, c, z.p - 1, spare)
+}
+
+// How many of the bucket's pages are blank.
+pub fn blanks(z: Sizes, c: usize, spare: &[u8]) -> usize
+    requires { ⌜ Chip z (now spare) ⌝ }
+    requires { ⌜ c < z .c ⌝ }
+    ensures { λ r. ⌜ r ≡ blanks z (spareOnly (now (spare .entry))) c ⌝ }
+{
+    let mut count = 0;
+    let mut k = 0;
+    while k < z.p {
+        if page_blank(z, c, k, spare) {
+            count += 1;
+        }
+        k += 1;
+    }
+    count
+}
+
+pub fn all_blank(z: Sizes, c: usize, spare: &[u8]) -> bool
+    requires { ⌜ Chip z (now spare) ⌝ }
+    requires { ⌜ c < z .c ⌝ }
+    ensures { λ r. ⌜ r ≡ allBlank z (spareOnly (now (spare .entry))) c ⌝ }
+{
+    blanks(z, c, spare) == z.p
+}

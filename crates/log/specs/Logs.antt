@@ -1,0 +1,23 @@
+-- The stores of a log, by the code's description of it.
+use Prim.Native.Nat.{ℕ, _+_, _≤_, _<_}
+use mathlib.Core.List.{List}
+use Rattle.model.specs.declared.Sizes.{Sizes}
+use Rattle.model.specs.Sizes.{pagesFor}
+use Rattle.model.specs.Stores.{Store}
+use Rattle.model.specs.Steps.{logStore, logStores}
+use Rattle.geometry.specs.Geometry.{Limits}
+use Rattle.log.specs.declared.Log.{Log}
+
+module _ (z : Sizes) (log : Log) where
+  abbrev pub pageStore : List ℕ → ℕ → Store
+  pageStore = logStore z (log .bucket) (log .first) (log .kind) (log .epoch) (log .back) (log .offset)
+
+  abbrev pub allStores : List ℕ → List Store
+  allStores = logStores z (log .bucket) (log .first) (log .kind) (log .epoch) (log .back) (log .offset)
+
+  -- a log of n bytes, at least one, has its pages in the bucket
+  pub record Fits (n : ℕ) : Type 0 where
+    pub limits : Limits z
+    pub bucket : log .bucket < z .c
+    pub some : 1 ≤ n
+    pub room : log .first + pagesFor z n ≤ z .p

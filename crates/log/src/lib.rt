@@ -1,0 +1,153 @@
+// A log, programmed page by page under the allowance.
+use device::Store;
+use meter::Meter;
+use model::Sizes;
+use spare::Fields;
+ghost use mathlib.Core.Path.{_≡_};
+ghost use Prim.Native.Nat.{_*_, _≤_, _<_, min};
+ghost use lib.ListN.{length};
+ghost use Rattle.model.specs.Sizes.{pagesFor};
+ghost use Rattle.model.specs.Spare.{tagBytes};
+ghost use Rattle.model.specs.Stores.{pageBytes};
+ghost use Rattle.spare.specs.Fields.{tag};
+ghost use Rattle.geometry.specs.Geometry.{Lent};
+ghost use Rattle.meter.specs.Run.{running, step, runAll};
+ghost use Rattle.log.specs.Logs.{pageStore, allStores, Fits};
+
+// Where a log goes, from page `first` of a cache bucket on, and what its spare bytes say.
+pub struct Log {
+    pub bucket: usize,
+    pub first: usize,
+    pub kind: u8,
+    pub epoch: u32,
+    pub back: u16,
+    pub offset: u16,
+}
+
+fn smaller(a: usize, b: usize) -> usize
+    ensures { λ r. ⌜ r ≡ min a b ⌝ }
+{
+    if a < b { a } else { b }
+}
+
+// Page o of a log's bytes; the last page is filled with FF.
+fn page_bytes(z: Sizes, bytes: &[u8], o: usize, page: &mut [u8])
+    requires { ⌜ (o * z .s ≤ length (now bytes)) × (length (now page) ≡ z .s) ⌝ }
+    ensures { λ _. ⌜ now (page .exit) ≡ pageBytes z (now (bytes .entry)) o ⌝ }
+{
+    let at = o * z.s;
+    let count = smaller(z.s, bytes.len() - at);
+    let end = at + count;
+    area::fill(page, 255);
+    area::write_at(page, 0, &bytes[at..end]);
+}
+
+// What the spare bytes of page o of a log of n bytes say.
+fn page_fields(z: Sizes, log: Log, n: usize, o: usize) -> Fields
+    requires { ⌜ Fits z log n × (o < pagesFor z n) ⌝ }
+    ensures { λ r. ⌜ tag r ≡ tagBytes (log .kind) o (pagesFor z n) (log .epoch) (log .back) (log .offset) n ⌝ }
+{
+    let pages = geometry::pages_for(z, n);
+    let last = n - 1;
+    Fields {
+        kind: log.kind,
+        ordinal: o as u8,
+        pages: pages as u8,
+        epoch: log.epoch,
+        back: log.back,
+        offset: log.offset,
+        last: last as u16,
+    }
+}
+
+// Programs page o, put together in a lent page of S bytes.
+fn program_by(
+    meter: Meter,
+    z: Sizes,
+    log: Log,
+    bytes: &[u8],
+    o: usize,
+    page: &mut [u8],
+    flash: &mut [u8],
+    spare: &mut [u8],
+    disk: &mut [u8],
+) -> Meter
+    requires { ⌜ Lent z (now flash) (now spare) (now disk) ⌝ }
+    requires { ⌜ Fits z log (length (now bytes)) × (o < pagesFor z (length (now bytes))) × (length (now page) ≡ z .s) ⌝ }
+    ensures { λ r. ⌜ running (now (flash .exit)) (now (spare .exit)) (now (disk .exit)) r ≡ step z (pageStore z log (now (bytes .entry)) o) (running (now (flash .entry)) (now (spare .entry)) (now (disk .entry)) meter) ⌝ }
+    ensures { λ _. ⌜ Lent z (now (flash .exit)) (now (spare .exit)) (now (disk .exit)) ⌝ }
+{
+    page_bytes(z, bytes, o, page);
+    let fields = page_fields(z, log, bytes.len(), o);
+    let tag = spare::encode(fields);
+    let at = log.first + o;
+    meter::store(
+        meter,
+        Store::Program {
+            bucket: log.bucket,
+            page: at,
+        },
+        z,
+        page,
+        &tag,
+        flash,
+        spare,
+        disk,
+    )
+}
+
+// Page o of the log; a page has at most 1,024 bytes.
+fn program_page(
+    meter: Meter,
+    z: Sizes,
+    log: Log,
+    bytes: &[u8],
+    o: usize,
+    flash: &mut [u8],
+    spare: &mut [u8],
+    disk: &mut [u8],
+) -> Meter
+    requires { ⌜ Lent z (now flash) (now spare) (now disk) ⌝ }
+    requires { ⌜ Fits z log (length (now bytes)) × (o < pagesFor z (length (now bytes))) ⌝ }
+    ensures { λ r. ⌜ running (now (flash .exit)) (now (spare .exit)) (now (disk .exit)) r ≡ step z (pageStore z log (now (bytes .entry)) o) (running (now (flash .entry)) (now (spare .entry)) (now (disk .entry)) meter) ⌝ }
+    ensures { λ _. ⌜ Lent z (now (flash .exit)) (now (spare .exit)) (now (disk .exit)) ⌝ }
+{
+    let mut page = [255u8; 1024];
+    let size = z.s;
+    program_by(
+        meter,
+        z,
+        log,
+        bytes,
+        o,
+        &mut page[..size],
+        flash,
+        spare,
+        disk,
+    )
+}
+
+// All pages of the log, in rising order.
+pub fn program_log(
+    meter: Meter,
+    z: Sizes,
+    log: Log,
+    bytes: &[u8],
+    flash: &mut [u8],
+    spare: &mut [u8],
+    disk: &mut [u8],
+) -> Meter
+    requires { ⌜ Lent z (now flash) (now spare) (now disk) ⌝ }
+    requires { ⌜ Fits z log (length (now bytes)) ⌝ }
+    ensures { λ r. ⌜ running (now (flash .exit)) (now (spare .exit)) (now (disk .exit)) r ≡ runAll z (allStores z log (now (bytes .entry))) (running (now (flash .entry)) (now (spare .entry)) (now (disk .entry)) meter) ⌝ }
+    ensures { λ _. ⌜ Lent z (now (flash .exit)) (now (spare .exit)) (now (disk .exit)) ⌝ }
+{
+    let pages = geometry::pages_for(z, bytes.len());
+    let mut run = meter;
+    let mut o = 0;
+    while o < pages {
+        run = program_page(run, z, log, bytes, o, flash, spare, disk);
+        o += 1;
+    }
+    run
+}

@@ -1,0 +1,3 @@
+pub mod SameChip
+pub mod Meet
+pub mod Logs

@@ -1,0 +1,67 @@
+-- Laws of runs: one plan after another, what an allowance makes of a plan, and the outcome that follows.
+use Prim.Native.Nat.{ℕ, zero, suc, _+_, _-_, _<_, _≤_}
+use mathlib.Core.Path.{_≡_, refl, ap, _∙_}
+use mathlib.Core.Bool.{Bool, true, false}
+use mathlib.Core.List.{List, [], _∷_, _++_}
+use native.Mathlib.Nat.{zero-sub, suc-sub-suc, sub-zero}
+use native.Mathlib.Numerals.{add-one, sub-one}
+use native.Mathlib.Omega.{arith}
+use lib.ListN.{length, take}
+use lib.Dec.{ltb, leb·suc-suc, leb·suc-zero, leb·zero, eqb·suc-zero}
+use lib.Seq.{take-nil, take-all}
+use borrow.Author.Tests.{ltb-true, ltb-false}
+use Rattle.lists.specs.Lists.{row}
+use Rattle.model.specs.declared.Sizes.{Sizes}
+use Rattle.model.specs.Sizes.{Device}
+use Rattle.model.specs.Stores.{Store, apply, applyAll}
+use Rattle.model.specs.State.{State}
+use Rattle.model.specs.Steps.{Plan}
+use Rattle.model.specs.Calls.{Call, sizesOf, carryOut}
+use Rattle.meter.specs.Run.{Run, fresh, step, runAll, ended}
+
+module _ (z : Sizes) where
+  pub run-append : (ss ts : List Store) (r : Run) → runAll z (ss ++ ts) r ≡ runAll z ts (runAll z ss r)
+  unfolding runAll
+  run-append [] ts r = refl
+  run-append (s ∷ ss) ts r = run-append ss ts (step z s r)
+
+  -- a row of stores, one longer
+  pub run-more : (f : ℕ → Store) (k : ℕ) (r : Run) → runAll z (row (k + 1) f) r ≡ step z (f k) (runAll z (row k f) r)
+  unfolding runAll row
+  run-more f k r = rw (add-one k) (run-append (row k f) (f k ∷ []) r)
+
+  -- a run that is cut stays as it is
+  run-cut : (ss : List Store) (d : Device) → runAll z ss (record { device = d; meter = record { left = 0; cut = true } }) ≡ record { device = d; meter = record { left = 0; cut = true } }
+  unfolding runAll step
+  run-cut [] d = refl
+  run-cut (s ∷ ss) d = run-cut ss d
+
+  -- Exactly the first n stores of a plan are made, in order, and the run is cut if and only if the plan has more.
+  pub run-first : (ss : List Store) (d : Device) (n : ℕ)
+      → runAll z ss (fresh d n) ≡ record { device = applyAll z d (take n ss); meter = record { left = n - length ss; cut = ltb n (length ss) } }
+  unfolding runAll step applyAll
+  run-first [] d n = rw (take-nil {A = Store} n, sub-zero n, leb·suc-zero n)
+  run-first (s ∷ ss) d zero = run-cut ss d ∙ rw (zero-sub (suc (length ss)), leb·suc-suc 0 (length ss), leb·zero (length ss))
+  run-first (s ∷ ss) d (suc n) = rw (eqb·suc-zero n, sub-one (suc n)) (run-first ss (apply z d s) n ∙ rw (suc-sub-suc n (length ss), leb·suc-suc (suc n) (length ss)))
+
+-- the allowance does not grow
+pub run-left : (z : Sizes) (ss : List Store) (d : Device) (n : ℕ) → runAll z ss (fresh d n) .meter .left ≤ n
+run-left z ss d n = rw (run-first z ss d n) (omega arith)
+
+by-test : (n : ℕ) (k : Call) (s : State) (d : Device) (p : Plan) (t : Bool) → ltb n (length (p .stores)) ≡ t
+    → ended n k s d p (record { device = applyAll (sizesOf k s) d (take n (p .stores)); meter = record { left = n - length (p .stores); cut = ltb n (length (p .stores)) } })
+    ≡ carryOut n k s d p
+unfolding ended carryOut
+by-test n k s d p true h =
+    let more : n < length (p .stores) = ltb-true n (length (p .stores)) h in
+    let e : n - (n - length (p .stores)) ≡ n = omega arith in
+    rw (h, e)
+by-test n k s d p false h =
+    let enough : length (p .stores) ≤ n = ltb-false n (length (p .stores)) h in
+    let e : n - (n - length (p .stores)) ≡ length (p .stores) = omega arith in
+    rw (h, e, take-all n (p .stores) enough)
+
+-- An operation that asked for all stores of its plan, from a whole allowance, has the outcome that the definitions give it.
+pub run-ended : (n : ℕ) (k : Call) (s : State) (d : Device) (p : Plan)
+    → ended n k s d p (runAll (sizesOf k s) (p .stores) (fresh d n)) ≡ carryOut n k s d p
+run-ended n k s d p = ap (ended n k s d p) (run-first (sizesOf k s) (p .stores) d n) ∙ by-test n k s d p (ltb n (length (p .stores))) refl

@@ -1,0 +1,103 @@
+use mathlib.Core.List.{map}
+use mathlib.Core.Logic.{⊎-elim}
+use mathlib.Core.Path.{_≡_, refl, sym, ap, _∙_}
+use Prim.Native.Nat.{_≤_, _-_}
+use native.Mathlib.Numerals.{add-one}
+use native.Mathlib.Omega.{arith}
+use lib.Seq.{length-take-le, take-suc-set}
+use lib.ListN.{length-set, length, take}
+use borrow.Author.Needs.{needs}
+use Rattle.image.specs.Chip.{spareOnly}
+use Rattle.model.specs.Image.{used, epochOf}
+use Rattle.lists.proofs.Turns.{keep-more, keep-same}
+use Rattle.lists.specs.Lists.{keep, row, below}
+use Rattle.rules.proofs.epochs_differ.Statement.{statement}
+use Rattle.rules.proofs.epochs_differ.Tie as tie
+
+abbrev Inv-loop : tie.InvT-loop
+Inv-loop z spare epochs₀ n₀ c₀ epochs n c = (c ≤ z .c) × (n ≤ c) × (length epochs ≡ 256) × (take n epochs ≡ map (epochOf z (spareOnly spare)) (keep (used z (spareOnly spare)) (below c)))
+
+abbrev μ-loop : tie.MeasureT-loop
+μ-loop z spare epochs₀ n₀ c₀ epochs n c = z .c - c
+
+loop-holds : tie.Need-loop-holds Inv-loop μ-loop
+unfolding keep below row
+loop-holds c = (omega arith, omega arith, search needs, refl)
+
+used-requires : tie.Need-used-requires Inv-loop μ-loop
+used-requires c κs = search needs
+
+epoch-of-requires : tie.Need-epoch-of-requires Inv-loop μ-loop
+epoch-of-requires c κs = search needs
+
+mul-epochs : tie.Need-mul-epochs Inv-loop μ-loop
+mul-epochs c = search needs
+
+array-write-epochs : tie.Need-array-write-epochs Inv-loop μ-loop
+array-write-epochs c = search needs
+
+add-n : tie.Need-add-n Inv-loop μ-loop
+add-n c = omega arith
+
+add-c : tie.Need-add-c Inv-loop μ-loop
+add-c c = omega arith
+
+loop-less : tie.Need-loop-less Inv-loop μ-loop
+loop-less c = omega arith
+
+loop-again : tie.Need-loop-again Inv-loop μ-loop
+loop-again c =
+    let l = c .before .before .before .before .loop in
+    let a = c .before .before .before .before .before .before .args in
+    let e = sym (c .before .used .ensures) in
+    let epoch = epochOf (a .z) (spareOnly (a .spare .now)) in
+    let isUsed = used (a .z) (spareOnly (a .spare .now)) in
+    ⊎-elim
+    (λ w. (
+      omega arith,
+      omega (arith, w .3),
+      ap length (w .2) ∙ length-set (l .epochs) (l .n) (w .1 .result) ∙ l .inv .2,
+      rw (w .3, w .2, add-one (l .n), take-suc-set (l .epochs) (l .n) (w .1 .result) (omega arith), l .inv .3, w .1 .ensures)
+          (sym (keep-more (l .c) isUsed epoch (e ∙ w .0 .taken))),
+    ))
+    (λ w. (
+      omega arith,
+      omega (arith, w .2),
+      ap length (w .1) ∙ l .inv .2,
+      rw (w .2, w .1, l .inv .3) (sym (keep-same (l .c) isUsed epoch (e ∙ w .0 .left))),
+    ))
+    (c .if2 .came)
+
+array-share-prefix-epochs : tie.Need-array-share-prefix-epochs Inv-loop μ-loop
+array-share-prefix-epochs c = search needs
+
+slice-aggregate-all-differ : tie.Need-slice-aggregate-all-differ Inv-loop μ-loop
+slice-aggregate-all-differ c = sym (length-take-le (c .before .before .before .loop .n) (c .before .before .before .loop .epochs) (omega arith))
+
+all-differ-requires : tie.Need-all-differ-requires Inv-loop μ-loop
+all-differ-requires c κs = search needs
+
+returns : tie.Need-returns Inv-loop μ-loop
+returns c =
+    let e : c .before .before .before .before .loop .c ≡ c .before .before .before .before .before .before .args .z .c = omega arith in
+    rw (c .before .before .before .before .loop .inv .3, e) at (c .all-differ .ensures)
+
+pub epochs-differ-spec : {M : Type 1} → statement M
+epochs-differ-spec =
+    tie.close
+    (tie.spec
+    Inv-loop
+    μ-loop
+    loop-holds
+    used-requires
+    epoch-of-requires
+    mul-epochs
+    array-write-epochs
+    add-n
+    add-c
+    loop-less
+    loop-again
+    array-share-prefix-epochs
+    slice-aggregate-all-differ
+    all-differ-requires
+    returns)

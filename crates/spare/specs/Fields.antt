@@ -1,0 +1,28 @@
+-- The code's fields and the book's spare bytes.
+use Prim.Native.Nat.{ℕ, _+_}
+use mathlib.Core.List.{List}
+use Rattle.lists.specs.Lists.{if_then_else_}
+use Rattle.model.specs.Spare.{two, blank, kind, ordinal, pages, epoch, back, offset, tagBytes}
+use Rattle.spare.specs.declared.Fields.{Fields}
+use Rattle.spare.specs.declared.Seen.{Seen}
+use Rattle.spare.specs.declared.Seen.the-variants.{Blank, Programmed}
+
+-- the spare bytes with these fields
+unfoldable pub tag : Fields → List ℕ
+tag f = tagBytes (f .kind) (f .ordinal) (f .pages) (f .epoch) (f .back) (f .offset) (f .last + 1)
+
+-- the fields that spare bytes say
+unfoldable pub fields : List ℕ → Fields
+fields tag = record {
+  kind = kind tag;
+  ordinal = ordinal tag;
+  pages = pages tag;
+  epoch = epoch tag;
+  back = back tag;
+  offset = offset tag;
+  last = two tag 14;
+}
+
+-- what a look at spare bytes finds
+unfoldable pub seen : List ℕ → Seen
+seen tag = if blank tag then Blank else Programmed (fields tag)

@@ -1,0 +1,157 @@
+// The sixteen spare bytes of a page: written from fields, and looked at.
+ghost use mathlib.Core.Path.{_≡_};
+ghost use Prim.Native.Nat.{_+_, _*_, _≤_};
+ghost use lib.ListN.{length};
+ghost use Rattle.lists.specs.Lists.{same, part};
+ghost use Rattle.model.specs.Spare.{two, four, zeros};
+ghost use Rattle.spare.specs.Fields.{tag, fields, seen};
+
+// What the spare bytes of a programmed page say. `last` is the log's length less one.
+pub struct Fields {
+    pub kind: u8,
+    pub ordinal: u8,
+    pub pages: u8,
+    pub epoch: u32,
+    pub back: u16,
+    pub offset: u16,
+    pub last: u16,
+}
+
+// What a look at a page's spare bytes finds.
+pub enum Seen {
+    Blank,
+    Programmed(Fields),
+}
+
+// The spare bytes with these fields, numbers high byte first.
+pub fn encode(f: Fields) -> [u8; 16]
+    ensures { λ r. ⌜ r ≡ tag f ⌝ }
+{
+    [
+        f.kind,
+        f.ordinal,
+        f.pages,
+        0,
+        (f.epoch / 16777216 % 256) as u8,
+        (f.epoch / 65536 % 256) as u8,
+        (f.epoch / 256 % 256) as u8,
+        (f.epoch % 256) as u8,
+        (f.back / 256 % 256) as u8,
+        (f.back % 256) as u8,
+        0,
+        0,
+        (f.offset / 256 % 256) as u8,
+        (f.offset % 256) as u8,
+        (f.last / 256 % 256) as u8,
+        (f.last % 256) as u8,
+    ]
+}
+
+fn two_bytes(high: u8, low: u8) -> u16
+    ensures { λ r. ⌜ r ≡ high * 256 + low ⌝ }
+{
+    (high as u16) * 256 + (low as u16)
+}
+
+fn four_bytes(high: u16, third: u8, fourth: u8) -> u32
+    ensures { λ r. ⌜ r ≡ (high * 256 + third) * 256 + fourth ⌝ }
+{
+    ((high as u32) * 256 + (third as u32)) * 256 + (fourth as u32)
+}
+
+// The two bytes from index i on, as a number.
+fn two_at(bytes: &[u8], i: usize) -> u16
+    requires { ⌜ i + 2 ≤ length (now bytes) ⌝ }
+    ensures { λ r. ⌜ r ≡ two (now (bytes .entry)) i ⌝ }
+{
+    two_bytes(bytes[i], bytes[i + 1])
+}
+
+// The four bytes from index i on, as a number.
+fn four_at(bytes: &[u8], i: usize) -> u32
+    requires { ⌜ i + 4 ≤ length (now bytes) ⌝ }
+    ensures { λ r. ⌜ r ≡ four (now (bytes .entry)) i ⌝ }
+{
+    let high = two_at(bytes, i);
+    four_bytes(high, bytes[i + 2], bytes[i + 3])
+}
+
+// The fields that sixteen spare bytes say.
+fn decode(bytes: &[u8]) -> Fields
+    requires { ⌜ length (now bytes) ≡ 16 ⌝ }
+    ensures { λ r. ⌜ r ≡ fields (now (bytes .entry)) ⌝ }
+{
+    let epoch = four_at(bytes, 4);
+    let back = two_at(bytes, 8);
+    let offset = two_at(bytes, 12);
+    let last = two_at(bytes, 14);
+    Fields {
+        kind: bytes[0],
+        ordinal: bytes[1],
+        pages: bytes[2],
+        epoch: epoch,
+        back: back,
+        offset: offset,
+        last: last,
+    }
+}
+
+// Whether two areas hold the same bytes.
+fn equal(a: &[u8], b: &[u8]) -> bool
+    ensures { λ r. ⌜ r ≡ same (now (a .entry)) (now (b .entry)) ⌝ }
+{
+    if a.len() != b.len() {
+        return false;
+    }
+    let mut i = 0;
+    while i < a.len() {
+        if a[i] != b[i] {
+            return false;
+        }
+        i += 1;
+    }
+    true
+}
+
+// What sixteen spare bytes are: those of an erased page, or fields.
+fn look(bytes: &[u8]) -> Seen
+    requires { ⌜ length (now bytes) ≡ 16 ⌝ }
+    ensures { λ r. ⌜ r ≡ seen (now (bytes .entry)) ⌝ }
+{
+    if equal(
+        bytes,
+        b"\xff\xff\xff\xff\xff\xff\xff\xff\xff\xff\xff\xff\xff\xff\xff\xff",
+    ) {
+        return Seen::Blank;
+    }
+    let found = decode(bytes);
+    Seen::Programmed(found)
+}
+
+// A look at a page of the spare area, counted over the whole chip.
+pub fn look_at(spare: &[u8], page: usize) -> Seen
+    requires { ⌜ page * 16 + 16 ≤ length (now spare) ⌝ }
+    ensures { λ r. ⌜ r ≡ seen (part (now (spare .entry)) (page * 16) 16) ⌝ }
+{
+    let start = page * 16;
+    let end = start + 16;
+    look(&spare[start..end])
+}
+
+// Whether the zero bytes of sixteen spare bytes are zero.
+fn zero_bytes(bytes: &[u8]) -> bool
+    requires { ⌜ length (now bytes) ≡ 16 ⌝ }
+    ensures { λ r. ⌜ r ≡ zeros (now (bytes .entry)) ⌝ }
+{
+    (bytes[3] == 0) & (bytes[10] == 0) & (bytes[11] == 0)
+}
+
+// Whether the zero bytes of a page are zero.
+pub fn zeroed(spare: &[u8], page: usize) -> bool
+    requires { ⌜ page * 16 + 16 ≤ length (now spare) ⌝ }
+    ensures { λ r. ⌜ r ≡ zeros (part (now (spare .entry)) (page * 16) 16) ⌝ }
+{
+    let start = page * 16;
+    let end = start + 16;
+    zero_bytes(&spare[start..end])
+}
