@@ -1,0 +1,53 @@
+use Rattle.fifo.proofs.Insert.{inserted}
+use Rattle.fifo.specs.View.{listOf}
+use Rattle.lists.proofs.Arrays.{take-used}
+use lib.ListN.{length, take, drop}
+use mathlib.Core.List.{_∷_, _++_}
+use native.Mathlib.Omega.{arith}
+use Prim.Native.Nat.{_≤_, _<_}
+use mathlib.Core.Path.{_≡_, refl, sym, _∙_, ap}
+use borrow.Author.Needs.{needs}
+use Rattle.fifo.proofs.Fifo.insert.Statement.{statement}
+use Rattle.fifo.proofs.Fifo.insert.Tie as tie
+use Rattle.fifo.proofs.Fifo.insert.Reads as reads
+use Rattle.fifo.proofs.Fifo.insert.Lts as lts
+use Rattle.fifo.proofs.Fifo.used.Reads as used-reads
+use Rattle.fifo.proofs.copied.Reads as copied-reads
+
+-- src/lib.rt:95:13
+used-requires : tie.Need-used-requires
+used-requires c κs = search needs
+
+-- src/lib.rt:97:38
+add-copied : tie.Need-add-copied
+add-copied c = search needs
+
+-- src/lib.rt:97:57
+sub-copied : tie.Need-sub-copied
+sub-copied c = search needs
+
+-- src/lib.rt:97:24
+copied-requires : tie.Need-copied-requires
+copied-requires c κs = search needs
+
+-- src/lib.rt:98:9
+array-write-next : tie.Need-array-write-next
+array-write-next c = search needs
+
+-- src/lib.rt:101:18
+add-t9 : tie.Need-add-t9
+add-t9 c = search needs
+
+-- src/lib.rt:91:5
+returns : tie.Need-returns
+returns c = let x = c .before .before .before .args in
+    let u = c .before .before .used in
+    let n : length (x .self .items) ≡ 256 = search needs in
+    let m : u .result < 256 = omega arith in
+    rw (c .copied .ensures, sym (take-used (u .result) (x .self .len) (x .self .items) (u .ensures .0)))
+    (inserted (x .self .items) (x .at) (u .result) (x .c) (omega arith) (omega arith))
+
+pub insert-spec : {M : Type 1} → statement M
+insert-spec =
+    tie.close
+    (tie.spec used-requires add-copied sub-copied copied-requires array-write-next add-t9 returns)

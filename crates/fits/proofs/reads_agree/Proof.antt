@@ -1,0 +1,74 @@
+use Prim.Native.Nat.{_≤_, _-_}
+use mathlib.Core.Bool.{true}
+use mathlib.Core.Path.{_≡_, refl, sym, _∙_}
+use native.Mathlib.Omega.{arith}
+use lib.ListN.{length, take}
+use borrow.Author.Needs.{needs}
+use Rattle.lists.proofs.Arrays.{tested-more, take-used, length-mapped}
+use Rattle.lists.specs.Lists.{all}
+use Rattle.model.specs.State.{caches, isBelow, readAgrees}
+use Rattle.image.specs.Chip.{spareOnly}
+use Rattle.queue.specs.View.{noEntry}
+use Rattle.state.proofs.Below.{cache-below}
+use Rattle.fits.proofs.reads_agree.Statement.{statement}
+use Rattle.fits.proofs.reads_agree.Tie as tie
+
+abbrev Inv-loop : tie.InvT-loop
+Inv-loop z spare n items agree₀ i₀ agree i = (i ≤ n) × (n ≤ 64) × (length items ≡ 64) × (all (isBelow (z .c)) (caches (take n items)) ≡ true) × (agree ≡ all (readAgrees z (spareOnly spare)) (take i items))
+
+abbrev μ-loop : tie.MeasureT-loop
+μ-loop z spare n items agree₀ i₀ agree i = n - i
+
+used-requires : tie.Need-used-requires Inv-loop μ-loop
+used-requires c κs = search needs
+
+loop-holds : tie.Need-loop-holds Inv-loop μ-loop
+unfolding all
+loop-holds c = let q = c .before .before .before .args .queue in
+    let u = c .before .used in
+    (search needs, search needs, search (needs, length-mapped), rw (take-used (u .result) (q .len) (q .items) (u .ensures .0)) (c .before .before .before .pre .1), refl)
+
+mul-e : tie.Need-mul-e Inv-loop μ-loop
+mul-e c = search needs
+
+array-copy-out-e : tie.Need-array-copy-out-e Inv-loop μ-loop
+array-copy-out-e c = search needs
+
+read-agrees-requires : tie.Need-read-agrees-requires Inv-loop μ-loop
+read-agrees-requires c κs = let l = c .before .before .loop in
+    let q = c .before .before .before .before .before .before .args in
+    (c .before .before .before .before .before .before .pre .0, cache-below (q .z .c) (c .before .before .before .before .used .result) (q .queue .items) (l .i) (l .inv .3) (omega arith) (omega arith))
+
+add-i : tie.Need-add-i Inv-loop μ-loop
+add-i c = search needs
+
+loop-less : tie.Need-loop-less Inv-loop μ-loop
+loop-less c = search needs
+
+loop-again : tie.Need-loop-again Inv-loop μ-loop
+loop-again c = let l = c .before .before .before .loop in
+    let q = c .before .before .before .before .before .before .before .args in
+    (search needs, l .inv .1, l .inv .2, l .inv .3, rw (l .inv .4, c .read-agrees .ensures) (sym (tested-more (readAgrees (q .z) (spareOnly (q .spare .now))) (l .i) (q .queue .items) noEntry (omega arith))))
+
+returns : tie.Need-returns Inv-loop μ-loop
+returns c = let l = c .before .loop in
+    let q = c .before .before .before .before .before .args .queue in
+    let u = c .before .before .before .used in
+    let e : l .i ≡ u .result = omega arith in
+    l .inv .4 ∙ rw (e, take-used (u .result) (q .len) (q .items) (u .ensures .0))
+
+pub reads-agree-spec : {M : Type 1} → statement M
+reads-agree-spec =
+    tie.close
+    (tie.spec
+    Inv-loop
+    μ-loop
+    used-requires
+    loop-holds
+    mul-e
+    array-copy-out-e
+    read-agrees-requires
+    add-i
+    loop-less
+    loop-again
+    returns)

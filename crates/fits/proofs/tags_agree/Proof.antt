@@ -1,0 +1,31 @@
+use Rattle.lists.specs.Lists.{all}
+use Rattle.model.specs.State.{readAgrees, writeAgrees, allBlank}
+use Rattle.image.specs.Chip.{spareOnly}
+use Rattle.fifo.specs.View.{listOf}
+use Rattle.queue.specs.View.{entriesOf}
+use Rattle.state.proofs.Below.{queues-below}
+use Rattle.state.specs.View.{viewOf}
+use Rattle.fits.proofs.Parts.{three}
+use Rattle.fits.specs.Fits.{tagsAgree}
+use Rattle.fits.proofs.tags_agree.Statement.{statement}
+use Rattle.fits.proofs.tags_agree.Tie as tie
+use Rattle.fits.proofs.tags_agree.Reads as reads
+
+reads-agree-requires : tie.Need-reads-agree-requires
+reads-agree-requires c κs = (c .before .before .pre .0, queues-below (viewOf (c .before .before .args .s)) (c .before .before .pre .1) .reads)
+
+writes-agree-requires : tie.Need-writes-agree-requires
+writes-agree-requires c κs = (c .before .before .before .pre .0, queues-below (viewOf (c .before .before .before .args .s)) (c .before .before .before .pre .1) .writes)
+
+free-blank-requires : tie.Need-free-blank-requires
+free-blank-requires c κs = (c .before .before .before .before .pre .0, queues-below (viewOf (c .before .before .before .before .args .s)) (c .before .before .before .before .pre .1) .free)
+
+returns : tie.Need-returns
+unfolding tagsAgree
+returns c = let s = c .before .before .before .before .before .args .s in
+    let d = spareOnly (c .before .before .before .before .before .args .spare .now) in
+    rw (c .free-blank .ensures, c .before .writes-agree .ensures, c .before .before .reads-agree .ensures) (three (all (readAgrees (s .sizes) d) (entriesOf (s .reads))) (all (writeAgrees (s .sizes) d) (entriesOf (s .writes))) (all (allBlank (s .sizes) d) (listOf (s .free))))
+
+pub tags-agree-spec : {M : Type 1} → statement M
+tags-agree-spec =
+    tie.close (tie.spec reads-agree-requires writes-agree-requires free-blank-requires returns)

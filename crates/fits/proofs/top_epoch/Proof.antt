@@ -1,0 +1,71 @@
+use Prim.Native.Nat.{_≤_, _-_}
+use mathlib.Core.Path.{_≡_, refl, sym, _∙_}
+use native.Mathlib.Nat.{max-eq-left, max-eq-right}
+use native.Mathlib.Numerals.{add-one}
+use native.Mathlib.Omega.{arith}
+use borrow.Author.Needs.{needs}
+use Rattle.lists.specs.Lists.{maxBelow}
+use Rattle.model.specs.State.{topEpoch}
+use Rattle.model.specs.Image.{epochOf}
+use Rattle.image.specs.Chip.{spareOnly}
+use Rattle.fits.proofs.top_epoch.Statement.{statement}
+use Rattle.fits.proofs.top_epoch.Tie as tie
+
+abbrev Inv-loop : tie.InvT-loop
+Inv-loop z spare top₀ c₀ top c = (c ≤ z .c) × (top ≡ maxBelow c (epochOf z (spareOnly spare)))
+
+abbrev μ-loop : tie.MeasureT-loop
+μ-loop z spare top₀ c₀ top c = z .c - c
+
+loop-holds : tie.Need-loop-holds Inv-loop μ-loop
+unfolding maxBelow
+loop-holds c = (search needs, refl)
+
+epoch-of-requires : tie.Need-epoch-of-requires Inv-loop μ-loop
+epoch-of-requires c κs = search needs
+
+cast-epoch : tie.Need-cast-epoch Inv-loop μ-loop
+cast-epoch c = search needs
+
+add-c : tie.Need-add-c Inv-loop μ-loop
+add-c c = search needs
+
+loop-less : tie.Need-loop-less Inv-loop μ-loop
+loop-less c = search needs
+
+loop-again : tie.Need-loop-again Inv-loop μ-loop
+unfolding maxBelow
+loop-again c = let l = c .before .before .before .before .loop in
+    let h : l .top ≤ c .before .epoch-of .result = omega arith in
+    (search needs, rw (add-one (l .c), ← l .inv .1, ← c .before .epoch-of .ensures) (sym (max-eq-right h)))
+
+loop-less-2 : tie.Need-loop-less-2 Inv-loop μ-loop
+loop-less-2 c = search needs
+
+loop-again-2 : tie.Need-loop-again-2 Inv-loop μ-loop
+unfolding maxBelow
+loop-again-2 c = let l = c .before .before .before .before .loop in
+    let h : c .before .epoch-of .result ≤ l .top = omega arith in
+    (search needs, rw (add-one (l .c), ← c .before .epoch-of .ensures, ← l .inv .1) (sym (max-eq-left h)))
+
+returns : tie.Need-returns Inv-loop μ-loop
+unfolding topEpoch
+returns c = let l = c .before .before .loop in
+    let e : l .c ≡ c .before .before .before .before .args .z .c = omega arith in
+    l .inv .1 ∙ rw e
+
+pub top-epoch-spec : {M : Type 1} → statement M
+top-epoch-spec =
+    tie.close
+    (tie.spec
+    Inv-loop
+    μ-loop
+    loop-holds
+    epoch-of-requires
+    cast-epoch
+    add-c
+    loop-less
+    loop-again
+    loop-less-2
+    loop-again-2
+    returns)

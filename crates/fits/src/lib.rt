@@ -1,0 +1,149 @@
+// Number 5: whether a state fits the chip.
+use model::Entry;
+use model::Sizes;
+use state::State;
+ghost use mathlib.Core.Path.{_≡_};
+ghost use mathlib.Core.Bool.{true};
+ghost use Prim.Native.Nat.{_≤_, _<_};
+ghost use Rattle.lists.specs.Lists.{all};
+ghost use Rattle.model.specs.State.{caches, queued, isBelow, readAgrees, writeAgrees, allBlank, topEpoch, stateFits};
+ghost use Rattle.image.specs.Chip.{Chip, spareOnly};
+ghost use Rattle.fifo.specs.View.{listOf};
+ghost use Rattle.queue.specs.View.{entriesOf};
+ghost use Rattle.state.specs.View.{viewOf};
+ghost use Rattle.fits.specs.Fits.{queuesFit, tagsAgree, numbersFit};
+
+// A bucket's spare fields are read only once the queues are known to hold buckets of the chip alone.
+pub fn state_fits(s: State, spare: &[u8]) -> bool
+    requires { ⌜ Chip (s .sizes) (now spare) ⌝ }
+    ensures { λ r. ⌜ r ≡ stateFits (viewOf s) (spareOnly (now (spare .entry))) ⌝ }
+{
+    if !once::buckets_once(s) {
+        return false;
+    }
+    let queues = queues_fit(s);
+    let tags = tags_agree(s, spare);
+    let numbers = numbers_fit(s, spare);
+    queues & tags & numbers
+}
+
+fn queues_fit(s: State) -> bool
+    ensures { λ r. ⌜ r ≡ queuesFit (viewOf s) ⌝ }
+{
+    let reads = s.reads.used();
+    let writes = s.writes.used();
+    let distinct = s.reads.distinct();
+    (reads <= s.sizes.r) & (writes <= s.sizes.w) & distinct & s.writes.distinct()
+}
+
+fn tags_agree(s: State, spare: &[u8]) -> bool
+    requires { ⌜ Chip (s .sizes) (now spare) ⌝ }
+    requires { ⌜ all (isBelow (s .sizes .c)) (queued (viewOf s)) ≡ true ⌝ }
+    ensures { λ r. ⌜ r ≡ tagsAgree (viewOf s) (spareOnly (now (spare .entry))) ⌝ }
+{
+    let z = s.sizes;
+    let reads = reads_agree(s.reads, z, spare);
+    let writes = writes_agree(s.writes, z, spare);
+    let free = free_blank(s.free, z, spare);
+    reads & writes & free
+}
+
+fn numbers_fit(s: State, spare: &[u8]) -> bool
+    requires { ⌜ Chip (s .sizes) (now spare) ⌝ }
+    ensures { λ r. ⌜ r ≡ numbersFit (viewOf s) (spareOnly (now (spare .entry))) ⌝ }
+{
+    let top = top_epoch(s.sizes, spare);
+    (s.accepted <= 15) & (1 <= s.next) & (top < s.next) & (s.next <= 4294967296)
+}
+
+// The largest epoch of a bucket on the chip, or 0.
+pub fn top_epoch(z: Sizes, spare: &[u8]) -> u64
+    requires { ⌜ Chip z (now spare) ⌝ }
+    ensures { λ r. ⌜ r ≡ topEpoch z (spareOnly (now (spare .entry))) ⌝ }
+{
+    let mut top = 0;
+    let mut c = 0;
+    while c < z.c {
+        let epoch = image::epoch_of(z, c, spare) as u64;
+        c += 1;
+        if top < epoch {
+            top = epoch;
+        }
+    }
+    top
+}
+
+fn read_agrees(e: Entry, z: Sizes, spare: &[u8]) -> bool
+    requires { ⌜ Chip z (now spare) ⌝ }
+    requires { ⌜ e .cache < z .c ⌝ }
+    ensures { λ r. ⌜ r ≡ readAgrees z (spareOnly (now (spare .entry))) e ⌝ }
+{
+    let c = e.cache as usize;
+    let whole = image::complete(z, c, spare);
+    whole & (image::back_of(z, c, spare) == e.back)
+}
+
+fn write_agrees(e: Entry, z: Sizes, spare: &[u8]) -> bool
+    requires { ⌜ Chip z (now spare) ⌝ }
+    requires { ⌜ e .cache < z .c ⌝ }
+    ensures { λ r. ⌜ r ≡ writeAgrees z (spareOnly (now (spare .entry))) e ⌝ }
+{
+    let c = e.cache as usize;
+    let write = image::is_write(z, c, spare);
+    let back = image::back_of(z, c, spare) == e.back;
+    write & back & (e.priority as usize <= z.p)
+}
+
+fn reads_agree(queue: queue::Queue, z: Sizes, spare: &[u8]) -> bool
+    requires { ⌜ Chip z (now spare) ⌝ }
+    requires { ⌜ all (isBelow (z .c)) (caches (entriesOf queue)) ≡ true ⌝ }
+    ensures { λ r. ⌜ r ≡ all (readAgrees z (spareOnly (now (spare .entry)))) (entriesOf queue) ⌝ }
+{
+    let n = queue.used();
+    let items = queue.items;
+    let mut agree = true;
+    let mut i = 0;
+    while i < n {
+        let e = items[i];
+        let agrees = read_agrees(e, z, spare);
+        agree = agree & agrees;
+        i += 1;
+    }
+    agree
+}
+
+fn writes_agree(queue: queue::Queue, z: Sizes, spare: &[u8]) -> bool
+    requires { ⌜ Chip z (now spare) ⌝ }
+    requires { ⌜ all (isBelow (z .c)) (caches (entriesOf queue)) ≡ true ⌝ }
+    ensures { λ r. ⌜ r ≡ all (writeAgrees z (spareOnly (now (spare .entry)))) (entriesOf queue) ⌝ }
+{
+    let n = queue.used();
+    let items = queue.items;
+    let mut agree = true;
+    let mut i = 0;
+    while i < n {
+        let e = items[i];
+        let agrees = write_agrees(e, z, spare);
+        agree = agree & agrees;
+        i += 1;
+    }
+    agree
+}
+
+fn free_blank(free: fifo::Fifo, z: Sizes, spare: &[u8]) -> bool
+    requires { ⌜ Chip z (now spare) ⌝ }
+    requires { ⌜ all (isBelow (z .c)) (listOf free) ≡ true ⌝ }
+    ensures { λ r. ⌜ r ≡ all (allBlank z (spareOnly (now (spare .entry)))) (listOf free) ⌝ }
+{
+    let n = free.used();
+    let items = free.items;
+    let mut blank = true;
+    let mut i = 0;
+    while i < n {
+        let c = items[i] as usize;
+        let clean = image::all_blank(z, c, spare);
+        blank = blank & clean;
+        i += 1;
+    }
+    blank
+}

@@ -1,0 +1,304 @@
+// A queue of back-end buckets with their cache buckets, by value.
+use model::Entry;
+ghost use mathlib.Core.Path.{_≡_};
+ghost use mathlib.Core.List.{List, [], _∷_, map};
+ghost use Prim.Native.Nat.{ℕ, _+_, _≤_};
+ghost use lib.ListN.{length, take, drop, getD};
+ghost use lib.Seq.{paste};
+ghost use Rattle.lists.specs.Lists.{distinct};
+ghost use Rattle.lists.specs.Arrays.{joined};
+ghost use Rattle.fifo.specs.View.{listOf};
+ghost use Rattle.model.specs.State.{holds, cacheOf, without, caches, backs};
+ghost use Rattle.model.specs.Operations.{halved, prioritised};
+ghost use Rattle.queue.specs.View.{entriesOf, noEntry, queueOf, placeOf};
+
+pub struct Queue {
+    pub items: [Entry; 64],
+    pub len: usize,
+}
+
+impl Queue {
+    pub fn empty() -> Queue
+        ensures { λ r. ⌜ r ≡ queueOf [] ⌝ }
+    {
+        let none = Entry {
+            back: 0,
+            cache: 0,
+            priority: 0,
+        };
+        Queue {
+            items: [none; 64],
+            len: 0,
+        }
+    }
+
+    // How many entries stand in the queue, whatever its length field says.
+    pub fn used(self) -> usize
+        ensures { λ r. ⌜ (r ≡ length (entriesOf self)) × (r ≤ 64) ⌝ }
+    {
+        let len = self.len;
+        if len < 64 { len } else { 64 }
+    }
+
+    // One more at the back. A full queue stays as it is.
+    pub fn push(mut self, e: Entry) -> Self
+        ensures { λ r. ⌜ entriesOf r ≡ joined 64 (entriesOf self) (e ∷ []) ⌝ }
+    {
+        let at = self.len;
+        if 64 <= at {
+            return self;
+        }
+        self.items[at] = e;
+        self.len = at + 1;
+        self
+    }
+
+    // The first entry, zeros where there is none.
+    pub fn first(self) -> Entry
+        ensures { λ r. ⌜ r ≡ getD (entriesOf self) 0 noEntry ⌝ }
+    {
+        let len = self.len;
+        if len == 0 {
+            return Entry {
+                back: 0,
+                cache: 0,
+                priority: 0,
+            };
+        }
+        self.items[0]
+    }
+
+    // All but the first entry.
+    pub fn rest(self) -> Self
+        ensures { λ r. ⌜ entriesOf r ≡ drop 1 (entriesOf self) ⌝ }
+    {
+        let n = self.used();
+        let items = self.items;
+        if n == 0 {
+            return self;
+        }
+        let next = copied(items, items, 1, n - 1);
+        Queue {
+            items: next,
+            len: n - 1,
+        }
+    }
+
+    // The same queue with zeros in the unused places.
+    pub fn cleared(self) -> Self
+        ensures { λ r. ⌜ r ≡ queueOf (entriesOf self) ⌝ }
+    {
+        let n = self.used();
+        let items = self.items;
+        let none = Queue::empty();
+        let blank = none.items;
+        let next = copied(blank, items, 0, n);
+        Queue {
+            items: next,
+            len: n,
+        }
+    }
+
+    // Whether the back-end bucket b is in the queue.
+    pub fn holds(self, b: u16) -> bool
+        ensures { λ r. ⌜ r ≡ holds b (entriesOf self) ⌝ }
+    {
+        let n = self.used();
+        let items = self.items;
+        let i = place(items, 0, n, b);
+        i < n
+    }
+
+    // Its cache bucket, 0 where there is none.
+    pub fn cache_of(self, b: u16) -> u8
+        ensures { λ r. ⌜ r ≡ cacheOf b (entriesOf self) ⌝ }
+    {
+        let n = self.used();
+        let items = self.items;
+        let i = place(items, 0, n, b);
+        if n <= i {
+            return 0;
+        }
+        let e = items[i];
+        e.cache
+    }
+
+    // All entries but those of b.
+    pub fn without(self, b: u16) -> Self
+        ensures { λ r. ⌜ entriesOf r ≡ without b (entriesOf self) ⌝ }
+    {
+        let n = self.used();
+        let items = self.items;
+        others(items, n, b)
+    }
+
+    // The priority p at b.
+    pub fn prioritise(self, b: u16, p: u8) -> Self
+        ensures { λ r. ⌜ entriesOf r ≡ map (prioritised b p) (entriesOf self) ⌝ }
+    {
+        let n = self.used();
+        let items = self.items;
+        let next = with_priority(items, n, b, p);
+        Queue {
+            items: next,
+            len: n,
+        }
+    }
+
+    // All priorities halved.
+    pub fn halve(self) -> Self
+        ensures { λ r. ⌜ entriesOf r ≡ map halved (entriesOf self) ⌝ }
+    {
+        let n = self.used();
+        let items = self.items;
+        let next = halves(items, n);
+        Queue {
+            items: next,
+            len: n,
+        }
+    }
+
+    // The cache buckets in the queue's order.
+    pub fn caches(self) -> fifo::Fifo
+        ensures { λ r. ⌜ listOf r ≡ caches (entriesOf self) ⌝ }
+    {
+        let n = self.used();
+        let items = self.items;
+        let list = caches_in(items, n);
+        fifo::Fifo {
+            items: list,
+            len: n,
+        }
+    }
+
+    // No back-end bucket stands twice.
+    pub fn distinct(self) -> bool
+        ensures { λ r. ⌜ r ≡ distinct (backs (entriesOf self)) ⌝ }
+    {
+        let n = self.used();
+        let items = self.items;
+        distinct_in(items, n)
+    }
+}
+
+// `into` with n entries of `from`, taken from the index `start` on, in its first places.
+fn copied(into: [Entry; 64], from: [Entry; 64], start: usize, n: usize) -> [Entry; 64]
+    requires { ⌜ start + n ≤ 64 ⌝ }
+    ensures { λ r. ⌜ r ≡ paste into 0 (drop start from) n ⌝ }
+{
+    let mut a = into;
+    let mut i = 0;
+    while i < n {
+        a[i] = from[start + i];
+        i += 1;
+    }
+    a
+}
+
+// Where b stands first among those from `start` up to n, or n.
+fn place(items: [Entry; 64], start: usize, n: usize, b: u16) -> usize
+    requires { ⌜ (start ≤ n) × (n ≤ 64) ⌝ }
+    ensures { λ r. ⌜ r ≡ start + placeOf b (drop start (take n items)) ⌝ }
+{
+    let mut i = start;
+    while i < n {
+        let e = items[i];
+        if e.back == b {
+            return i;
+        }
+        i += 1;
+    }
+    n
+}
+
+// The first n without those of b.
+fn others(items: [Entry; 64], n: usize, b: u16) -> Queue
+    requires { ⌜ n ≤ 64 ⌝ }
+    ensures { λ r. ⌜ entriesOf r ≡ without b (take n items) ⌝ }
+{
+    let mut a = items;
+    let mut k = 0;
+    let mut i = 0;
+    while i < n {
+        let e = items[i];
+        i += 1;
+        if e.back != b {
+            a[k] = e;
+            k += 1;
+        }
+    }
+    Queue { items: a, len: k }
+}
+
+// The entry with the priority p, if it is b's.
+fn set_at(mut e: Entry, b: u16, p: u8) -> Entry
+    ensures { λ r. ⌜ r ≡ prioritised b p e ⌝ }
+{
+    if e.back == b {
+        e.priority = p;
+    }
+    e
+}
+
+fn with_priority(items: [Entry; 64], n: usize, b: u16, p: u8) -> [Entry; 64]
+    requires { ⌜ n ≤ 64 ⌝ }
+    ensures { λ r. ⌜ take n r ≡ map (prioritised b p) (take n items) ⌝ }
+{
+    let mut a = items;
+    let mut i = 0;
+    while i < n {
+        let e = items[i];
+        let f = set_at(e, b, p);
+        a[i] = f;
+        i += 1;
+    }
+    a
+}
+
+fn halves(items: [Entry; 64], n: usize) -> [Entry; 64]
+    requires { ⌜ n ≤ 64 ⌝ }
+    ensures { λ r. ⌜ take n r ≡ map halved (take n items) ⌝ }
+{
+    let mut a = items;
+    let mut i = 0;
+    while i < n {
+        let e = items[i];
+        a[i] = Entry {
+            back: e.back,
+            cache: e.cache,
+            priority: e.priority / 2,
+        };
+        i += 1;
+    }
+    a
+}
+
+fn caches_in(items: [Entry; 64], n: usize) -> [u8; 256]
+    requires { ⌜ n ≤ 64 ⌝ }
+    ensures { λ r. ⌜ take n r ≡ caches (take n items) ⌝ }
+{
+    let mut a = [0; 256];
+    let mut i = 0;
+    while i < n {
+        let e = items[i];
+        a[i] = e.cache;
+        i += 1;
+    }
+    a
+}
+
+fn distinct_in(items: [Entry; 64], n: usize) -> bool
+    requires { ⌜ n ≤ 64 ⌝ }
+    ensures { λ r. ⌜ r ≡ distinct (backs (take n items)) ⌝ }
+{
+    let mut i = 0;
+    while i < n {
+        let e = items[i];
+        i += 1;
+        let again = place(items, i, n, e.back);
+        if again < n {
+            return false;
+        }
+    }
+    true
+}

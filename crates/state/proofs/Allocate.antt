@@ -1,0 +1,86 @@
+-- What number 5 says of the queues once it is passed: Allocate always finds a bucket.
+use Prim.Native.Nat.{ℕ, _+_, _≤_, _<_}
+use mathlib.Core.Path.{_≡_, sym, _∙_}
+use mathlib.Core.Bool.{true, false, true≢false}
+use mathlib.Core.Logic.{⊎-elim}
+use mathlib.Core.List.{List, [], _∷_, _++_}
+use native.Mathlib.Omega.{arith}
+use lib.ListN.{length, length-append, length-map}
+use borrow.Author.Tests.{eqb-true, leb-true, ltb-true, ne-eqb}
+use Rattle.lists.specs.Lists.{if_then_else_, empty, head, all}
+use Rattle.lists.proofs.Tests.{every-at, true-or-false}
+use Rattle.lists.proofs.Arrays.{empty-length, all-at}
+use Rattle.model.specs.Sizes.{Device, limits}
+use Rattle.model.specs.State.{State, moved, caches, queued, isBelow, eachOnce, stateFits}
+use Rattle.model.specs.Steps.{makeRoom, eraseStep, nothing}
+use Rattle.geometry.proofs.Passed.{limits-hold}
+use Rattle.state.specs.View.{Bounded}
+use Rattle.state.proofs.Bounds.{not-empty}
+use Rattle.state.proofs.Below.{queues-below}
+
+pub record Queued (s : State) : Type 0 where
+  pub total : length (s .reads) + length (s .writes) + length (s .gc) + length (s .free) ≡ s .sizes .c
+  pub below : all (isBelow (s .sizes .c)) (queued s) ≡ true
+  pub reads : length (s .reads) ≤ s .sizes .r
+  pub writes : length (s .writes) ≤ s .sizes .w
+  pub next : s .next ≤ 4294967296
+
+pub head-below : (c : ℕ) (l : List ℕ) → all (isBelow c) l ≡ true → empty l ≡ false → head l < c
+unfolding head isBelow
+head-below c l h e = ltb-true (head l) c (all-at (isBelow c) l h 0 0 (not-empty l e))
+
+moved-head : {c x : ℕ} (l : List ℕ) → empty l ≡ true → x < c → head (l ++ (x ∷ [])) < c
+unfolding head empty
+moved-head [] e h = h
+moved-head (y ∷ l) e h = absurd (true≢false (sym e))
+
+module _ (s : State) where
+  pub queued-length : length (queued s) ≡ length (s .reads) + length (s .writes) + length (s .gc) + length (s .free)
+  unfolding queued caches
+  queued-length = simp (length-append, length-map) (omega arith)
+
+  pub queues-hold : (d : Device) → stateFits s d ≡ true → Queued s
+  unfolding stateFits eachOnce
+  queues-hold d h =
+      let t = every-at _ h in
+      let once = every-at _ (t 0) in
+      record {
+        total = sym queued-length ∙ eqb-true (length (queued s)) (s .sizes .c) (once 0);
+        below = once 1;
+        reads = leb-true (length (s .reads)) (s .sizes .r) (t 1);
+        writes = leb-true (length (s .writes)) (s .sizes .w) (t 2);
+        next = leb-true (s .next) 4294967296 (t 11);
+      }
+
+  module _ (d : Device) (fits : stateFits s d ≡ true) (limited : limits (s .sizes) ≡ true) where
+    pub bounded : Bounded s
+    bounded =
+        let q = queues-hold d fits in
+        let l = limits-hold (s .sizes) limited in
+        record { reads = omega arith; writes = omega arith; total = omega arith; next = omega arith }
+
+    -- "if the free queue is empty, do the erase step first": then there is a GC head
+    pub some-gc : empty (s .free) ≡ true → empty (s .gc) ≡ false
+    some-gc e =
+        let q = queues-hold d fits in
+        let l = limits-hold (s .sizes) limited in
+        let n : length (s .free) ≡ 0 = eqb-true (length (s .free)) 0 (sym (empty-length (s .free)) ∙ e) in
+        empty-length (s .gc) ∙ ne-eqb (length (s .gc)) 0 (λ h. omega arith)
+
+    pub allocates : empty (makeRoom s .state .free) ≡ false
+    unfolding makeRoom eraseStep nothing moved
+    allocates =
+        ⊎-elim
+        (λ e. rw (some-gc e, e) (empty-length (s .free ++ (head (s .gc) ∷ [])) ∙ ne-eqb (length (s .free ++ (head (s .gc) ∷ []))) 0 (λ h. omega (arith, simp length-append at h))))
+        (λ e. rw e e)
+        (true-or-false (empty (s .free)))
+
+    -- the bucket that Allocate takes is one of the chip's
+    pub allocated-below : head (makeRoom s .state .free) < s .sizes .c
+    unfolding makeRoom eraseStep nothing moved
+    allocated-below =
+        let q = queues-below s (queues-hold d fits .below) in
+        ⊎-elim
+        (λ e. rw (some-gc e, e) (moved-head (s .free) e (head-below (s .sizes .c) (s .gc) (q .gc) (some-gc e))))
+        (λ e. rw e (head-below (s .sizes .c) (s .free) (q .free) e))
+        (true-or-false (empty (s .free)))

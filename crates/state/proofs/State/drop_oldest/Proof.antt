@@ -1,0 +1,29 @@
+use mathlib.Core.List.{[], _∷_}
+use mathlib.Core.Path.{_∙_, ap}
+use borrow.Author.Needs.{needs}
+use Rattle.lists.proofs.Arrays.{joined-fits}
+use Rattle.lists.specs.Arrays.{joined}
+use Rattle.model.specs.State.{moved, entry}
+use Rattle.model.specs.declared.Entry.{Entry}
+use Rattle.fifo.specs.View.{listOf}
+use Rattle.state.proofs.Bounds.{gc-fits}
+use Rattle.state.specs.View.{withoutOldest}
+use Rattle.state.proofs.State.drop_oldest.Statement.{statement}
+use Rattle.state.proofs.State.drop_oldest.Tie as tie
+
+first-requires : tie.Need-first-requires
+first-requires c κs = search needs
+
+rest-requires : tie.Need-rest-requires
+rest-requires c κs = search needs
+
+push-requires : tie.Need-push-requires
+push-requires c κs = search needs
+
+returns : tie.Need-returns
+unfolding withoutOldest moved entry
+returns c = let gc = listOf (c .before .before .before .args .self .gc) in
+    rw (c .before .rest .ensures, c .push .ensures ∙ (ap (λ (e : Entry). joined 256 gc (e .cache ∷ [])) (c .before .before .first .ensures) ∙ joined-fits 256 gc _ (gc-fits (c .before .before .before .pre))))
+
+pub drop-oldest-spec : {M : Type 1} → statement M
+drop-oldest-spec = tie.close (tie.spec first-requires rest-requires push-requires returns)

@@ -1,0 +1,222 @@
+// The engine's state by value, and its moves.
+use fifo::Fifo;
+use model::Entry;
+use model::Sizes;
+use queue::Queue;
+ghost use mathlib.Core.Path.{_≡_};
+ghost use mathlib.Core.List.{_++_, map};
+ghost use Prim.Native.Nat.{ℕ};
+ghost use Rattle.lists.specs.Arrays.{joined};
+ghost use Rattle.model.specs.declared.Sizes.{Sizes};
+ghost use Rattle.model.specs.Sizes.{Device};
+ghost use Rattle.model.specs.State.{entry, cachesOf, without};
+ghost use Rattle.model.specs.Steps.{eraseStep, makeRoom, taken, dropWrite, takeCopy};
+ghost use Rattle.model.specs.Operations.{accept, takeWrite, touch};
+ghost use Rattle.fifo.specs.View.{listOf};
+ghost use Rattle.queue.specs.View.{entriesOf};
+ghost use Rattle.state.specs.View.{viewOf, stateOf, halted, Bounded, stepOf, withoutOldest};
+
+pub struct State {
+    pub sizes: Sizes,
+    pub running: bool,
+    pub reads: Queue,
+    pub writes: Queue,
+    pub gc: Fifo,
+    pub free: Fifo,
+    pub accepted: u8,
+    pub next: u64,
+}
+
+// A state after at most one erase, and which bucket that erases.
+pub struct Room {
+    pub state: State,
+    pub erases: bool,
+    pub erased: usize,
+}
+
+impl State {
+    // The same state with zeros in the unused places of its queues.
+    pub fn cleared(mut self) -> Self
+        ensures { λ r. ⌜ r ≡ stateOf (viewOf self) ⌝ }
+    {
+        let reads = self.reads.cleared();
+        let writes = self.writes.cleared();
+        let gc = self.gc.cleared();
+        let free = self.free.cleared();
+        self.reads = reads;
+        self.writes = writes;
+        self.gc = gc;
+        self.free = free;
+        self
+    }
+
+    // The same state, not running.
+    pub fn stop(mut self) -> Self
+        ensures { λ r. ⌜ r ≡ halted self ⌝ }
+    {
+        self.running = false;
+        self
+    }
+
+    // The GC head, erased, is put last in the free queue.
+    pub fn erase_step(mut self) -> Room
+        requires { ⌜ Bounded (eraseStep (viewOf self) .state) ⌝ }
+        ensures { λ r. ⌜ stepOf r ≡ eraseStep (viewOf self) ⌝ }
+    {
+        let n = self.gc.used();
+        if n == 0 {
+            return Room {
+                state: self,
+                erases: false,
+                erased: 0,
+            };
+        }
+        let head = self.gc.head();
+        let gc = self.gc.rest();
+        let free = self.free.push(head);
+        self.gc = gc;
+        self.free = free;
+        Room {
+            state: self,
+            erases: true,
+            erased: head as usize,
+        }
+    }
+
+    // With an empty free queue, the erase step.
+    pub fn make_room(self) -> Room
+        requires { ⌜ Bounded (makeRoom (viewOf self) .state) ⌝ }
+        ensures { λ r. ⌜ stepOf r ≡ makeRoom (viewOf self) ⌝ }
+    {
+        let n = self.free.used();
+        if n == 0 {
+            return self.erase_step();
+        }
+        Room {
+            state: self,
+            erases: false,
+            erased: 0,
+        }
+    }
+
+    // The free head is taken, and the next epoch with it.
+    pub fn taken(mut self) -> Self
+        requires { ⌜ Bounded (taken (viewOf self)) ⌝ }
+        ensures { λ r. ⌜ viewOf r ≡ taken (viewOf self) ⌝ }
+    {
+        let free = self.free.rest();
+        self.free = free;
+        self.next = self.next + 1;
+        self
+    }
+
+    // b's Write bucket joins GC.
+    pub fn drop_write(mut self, b: u16) -> Self
+        requires { ⌜ Bounded (dropWrite b (viewOf self)) ⌝ }
+        ensures { λ r. ⌜ viewOf r ≡ dropWrite b (viewOf self) ⌝ }
+    {
+        let gc = with_cache(self.gc, self.writes, b);
+        let writes = self.writes.without(b);
+        self.writes = writes;
+        self.gc = gc;
+        self
+    }
+
+    // The free head becomes b's read bucket, the most recent; the old one joins GC.
+    pub fn take_copy(mut self, b: u16) -> Self
+        requires { ⌜ Bounded (takeCopy b (viewOf self)) ⌝ }
+        ensures { λ r. ⌜ viewOf r ≡ takeCopy b (viewOf self) ⌝ }
+    {
+        let copy = Entry {
+            back: b,
+            cache: self.free.head(),
+            priority: 0,
+        };
+        let gc = with_cache(self.gc, self.reads, b);
+        let others = self.reads.without(b);
+        let reads = others.push(copy);
+        self.reads = reads;
+        self.gc = gc;
+        self.taken()
+    }
+
+    // The free head becomes b's Write bucket, last in the queue.
+    pub fn take_write(mut self, b: u16) -> Self
+        requires { ⌜ Bounded (takeWrite b (viewOf self)) ⌝ }
+        ensures { λ r. ⌜ viewOf r ≡ takeWrite b (viewOf self) ⌝ }
+    {
+        let arrival = Entry {
+            back: b,
+            cache: self.free.head(),
+            priority: 0,
+        };
+        let writes = self.writes.push(arrival);
+        self.writes = writes;
+        self.taken()
+    }
+
+    // b's read bucket becomes the most recent.
+    pub fn touch(mut self, b: u16) -> Self
+        ensures { λ r. ⌜ ((z : Sizes) (d : Device) → viewOf r ≡ touch z d b (viewOf self)) ⌝ }
+    {
+        let reads = most_recent(self.reads, b);
+        self.reads = reads;
+        self
+    }
+
+    // The least recent read bucket joins GC.
+    pub fn drop_oldest(mut self) -> Self
+        requires { ⌜ Bounded (withoutOldest (viewOf self)) ⌝ }
+        ensures { λ r. ⌜ viewOf r ≡ withoutOldest (viewOf self) ⌝ }
+    {
+        let oldest = self.reads.first();
+        let reads = self.reads.rest();
+        let gc = self.gc.push(oldest.cache);
+        self.reads = reads;
+        self.gc = gc;
+        self
+    }
+
+    // A write of b is accepted, which leaves it the priority p; every 16th halves all priorities.
+    pub fn accept(mut self, b: u16, p: u8) -> Self
+        ensures { λ r. ⌜ viewOf r ≡ accept b p (viewOf self) ⌝ }
+    {
+        let writes = self.writes.prioritise(b, p);
+        if 15 <= self.accepted {
+            let halves = writes.halve();
+            self.writes = halves;
+            self.accepted = 0;
+            return self;
+        }
+        self.writes = writes;
+        self.accepted = self.accepted + 1;
+        self
+    }
+}
+
+// The GC queue with b's cache bucket behind it, if the other queue holds b.
+fn with_cache(gc: Fifo, queue: Queue, b: u16) -> Fifo
+    ensures { λ r. ⌜ listOf r ≡ joined 256 (listOf gc) (cachesOf b (entriesOf queue)) ⌝ }
+{
+    if !queue.holds(b) {
+        return gc;
+    }
+    let c = queue.cache_of(b);
+    gc.push(c)
+}
+
+// The queue with b's entry, if there is one, moved to the back.
+fn most_recent(queue: Queue, b: u16) -> Queue
+    ensures { λ r. ⌜ entriesOf r ≡ without b (entriesOf queue) ++ map (λ c. entry b c 0) (cachesOf b (entriesOf queue)) ⌝ }
+{
+    if !queue.holds(b) {
+        return queue;
+    }
+    let copy = Entry {
+        back: b,
+        cache: queue.cache_of(b),
+        priority: 0,
+    };
+    let others = queue.without(b);
+    others.push(copy)
+}
