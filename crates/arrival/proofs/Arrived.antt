@@ -1,0 +1,50 @@
+-- A write's log in its place, and the write accepted.
+use Prim.Native.Nat.{ℕ, _+_, _-_, _≤_, _<_}
+use mathlib.Core.Path.{_≡_, refl, ap, _∙_}
+use mathlib.Core.List.{List}
+use native.Mathlib.Omega.{arith}
+use lib.ListN.{length}
+use Rattle.lists.proofs.Rows.{count-le}
+use Rattle.model.specs.declared.Sizes.{Sizes}
+use Rattle.model.specs.Sizes.{Device, pagesFor}
+use Rattle.model.specs.Spare.{writeKind}
+use Rattle.model.specs.Stores.{tagOf}
+use Rattle.model.specs.Image.{pageBlank, blanks, epochOf}
+use Rattle.model.specs.State.{State, cacheOf}
+use Rattle.model.specs.Steps.{_then_, makeRoom, logStores}
+use Rattle.model.specs.Operations.{accept, takeWrite, fits, appendLog, startLog}
+use Rattle.image.specs.Chip.{spareOnly}
+use Rattle.image.proofs.SameSpare.{same-blanks, same-epoch}
+use Rattle.meter.specs.Run.{Run, runAll}
+use Rattle.state.specs.View.{Bounded}
+use Rattle.state.proofs.Bounds.{take-write-bounded}
+use Rattle.steps.specs.Turns.{Progress, after}
+use Rattle.steps.proofs.Kept.{Roomed}
+use Rattle.copying.specs.Fresh.{freshLog}
+use Rattle.arrival.specs.Arrives.{Starts}
+
+-- a bucket has no more blank pages than pages
+pub blanks-most : (z : Sizes) (d : Device) (c : ℕ) → blanks z d c ≤ z .p
+unfolding blanks
+blanks-most z d c = count-le (z .p) (pageBlank z d c)
+
+pub same-fits : (z : Sizes) (d : Device) (b n : ℕ) (s : State) → fits z (spareOnly (d .spare)) b n s ≡ fits z d b n s
+unfolding fits blanks pageBlank tagOf
+same-fits z d b n s = refl
+
+pub appended-by : (z : Sizes) (d : Device) (b off : ℕ) (bytes : List ℕ) (s : State) (r : Run) (w left e pages : ℕ)
+    → w ≡ cacheOf b (s .writes) → left ≡ blanks z (spareOnly (d .spare)) w → e ≡ epochOf z (spareOnly (d .spare)) w → pages ≡ pagesFor z (length bytes)
+    → record { run = runAll z (logStores z w (z .p - left) writeKind e b off bytes) r; state = accept b (left - pages) s } ≡ after z (appendLog z d b off bytes s) r
+unfolding after appendLog
+appended-by z d b off bytes s r w left e pages is-bucket is-left is-epoch is-pages = rw (is-pages, is-epoch ∙ same-epoch z d w, is-left ∙ same-blanks z d w, is-bucket)
+
+pub started-by : (z : Sizes) (b off : ℕ) (bytes : List ℕ) (s : State) (r : Run) (pages : ℕ) {p : Progress} → p ≡ after z (freshLog z writeKind b off bytes s) r
+    → pages ≡ pagesFor z (length bytes) → (d : Device)
+    → record { run = p .run; state = accept b (z .p - pages) (takeWrite b (p .state)) } ≡ after z (makeRoom s then startLog z d b off bytes) r
+unfolding after freshLog startLog _then_
+started-by z b off bytes s r pages e h d =
+    ap (λ (q : Progress). record { run = q .run; state = accept b (z .p - pages) (takeWrite b (q .state)) }) e ∙ rw h
+
+pub arrival-bounded : {s t : State} {n : ℕ} (b : ℕ) → Starts s n → Roomed s t → Bounded (takeWrite b t)
+arrival-bounded {s} {t} b starts r =
+    take-write-bounded t (r .orderly .bounded) b (r .some) (rw (r .writes) (starts .place)) (omega (arith, r .next, starts .fresh .epoch))

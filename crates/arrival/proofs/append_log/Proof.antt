@@ -1,0 +1,96 @@
+use Rattle.arrival.proofs.Arrived.{blanks-most, appended-by}
+use Rattle.state.specs.View.{viewOf}
+use Rattle.image.specs.Chip.{spareOnly}
+use Rattle.geometry.proofs.Passed.{products}
+use Rattle.geometry.specs.Geometry.{device}
+use Rattle.model.specs.Image.{blanks}
+use Rattle.model.specs.Sizes.{bucketSize}
+use native.Mathlib.Omega.{arith}
+use mathlib.Core.Path.{_≡_, ap}
+use borrow.Author.Needs.{needs}
+use Rattle.arrival.proofs.append_log.Statement.{statement}
+use Rattle.arrival.proofs.append_log.Tie as tie
+
+cache-of-requires : tie.Need-cache-of-requires
+cache-of-requires c κs = search needs
+
+cast-bucket : tie.Need-cast-bucket
+cast-bucket c = search needs
+
+blanks-requires : tie.Need-blanks-requires
+blanks-requires c κs = search needs
+
+epoch-of-requires : tie.Need-epoch-of-requires
+epoch-of-requires c κs = search needs
+
+pages-for-requires : tie.Need-pages-for-requires
+unfolding bucketSize
+pages-for-requires c κs = let appends = c .before .before .before .before .before .before .before .before .before .before .pre .1 in
+    (appends .limits, omega (arith, appends .room, products (appends .limits)))
+
+sub-first : tie.Need-sub-first
+sub-first c = let a = c .before .before .before .before .before .before .before .before .before .before .before .before .args in
+    omega (arith, c .before .before .before .before .blanks .ensures, blanks-most (a .s .sizes) (spareOnly (a .spare .now)) (c .before .before .before .before .before .before .cache-of .result))
+
+sub-priority : tie.Need-sub-priority
+sub-priority c = let a = c .before .before .before .before .before .before .before .before .before .before .before .before .args in
+    omega (arith, c .before .pages-for .ensures, c .before .before .before .before .blanks .ensures, ap (blanks (a .s .sizes) (spareOnly (a .spare .now))) (c .before .before .before .before .before .before .cache-of .ensures), c .before .before .before .before .before .before .before .before .before .before .before .before .pre .1 .pages)
+
+cast-priority : tie.Need-cast-priority
+cast-priority c = let a = c .before .before .before .before .before .before .before .before .before .before .before .before .args in
+    omega (arith, c .before .before .before .before .blanks .ensures, blanks-most (a .s .sizes) (spareOnly (a .spare .now)) (c .before .before .before .before .before .before .cache-of .result), c .before .before .before .before .before .before .before .before .before .before .before .before .pre .1 .limits .p-high)
+
+program-log-requires : tie.Need-program-log-requires
+program-log-requires c κs = let start = c .before .before .before .before .before .before .before .before .before .before .before .before .before .before .before in
+    let a = start .args in
+    let appends = start .pre .1 in
+    let chip = spareOnly (a .spare .now) in
+    let same : blanks (a .s .sizes) chip (c .before .before .before .before .before .before .before .before .before .cache-of .result) ≡ _ = ap (blanks (a .s .sizes) chip) (c .before .before .before .before .before .before .before .before .before .cache-of .ensures) in (
+      start .pre .0,
+      record {
+        limits = appends .limits;
+        bucket = omega (arith, c .before .before .before .before .before .before .before .before .before .cache-of .ensures, appends .bucket);
+        some = appends .some;
+        room = omega (arith, c .before .before .before .before .before .before .before .blanks .ensures, same, appends .pages, blanks-most (a .s .sizes) chip (c .before .before .before .before .before .before .before .before .before .cache-of .result));
+      },
+    )
+
+accept-requires : tie.Need-accept-requires
+accept-requires c κs = search needs
+
+same-length : tie.Need-same-length
+same-length c = search needs
+
+same-length-2 : tie.Need-same-length-2
+same-length-2 c = search needs
+
+same-length-3 : tie.Need-same-length-3
+same-length-3 c = search needs
+
+returns : tie.Need-returns
+returns c = let a = c .before .before .before .before .before .before .before .before .before .before .before .before .before .before .before .before .before .before .before .before .before .before .before .args in
+    let d = device (a .flash .now) (a .spare .now) (a .disk .now) in
+    let written = c .before .before .before .before .before .before .before .program-log .ensures in (
+      rw (written .0, c .accept .ensures)
+          (appended-by (a .s .sizes) d (a .b) (a .offset) (a .bytes .now) (viewOf (a .s)) _ (c .before .before .before .before .before .before .before .before .before .before .before .before .before .before .before .before .before .cache-of .result) (c .before .before .before .before .before .before .before .before .before .before .before .before .before .before .before .blanks .result) (c .before .before .before .before .before .before .before .before .before .before .before .before .before .epoch-of .result) (c .before .before .before .before .before .before .before .before .before .before .before .before .pages-for .result) (c .before .before .before .before .before .before .before .before .before .before .before .before .before .before .before .before .before .cache-of .ensures) (c .before .before .before .before .before .before .before .before .before .before .before .before .before .before .before .blanks .ensures) (c .before .before .before .before .before .before .before .before .before .before .before .before .before .epoch-of .ensures) (c .before .before .before .before .before .before .before .before .before .before .before .before .pages-for .ensures)),
+      written .1,
+    )
+
+pub append-log-spec : {M : Type 1} → statement M
+append-log-spec =
+    tie.close
+    (tie.spec
+    cache-of-requires
+    cast-bucket
+    blanks-requires
+    epoch-of-requires
+    pages-for-requires
+    sub-first
+    sub-priority
+    cast-priority
+    program-log-requires
+    accept-requires
+    same-length
+    same-length-2
+    same-length-3
+    returns)

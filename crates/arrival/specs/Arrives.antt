@@ -1,0 +1,23 @@
+-- When a log of n bytes has a place.
+use Prim.Native.Nat.{ℕ, _≤_, _<_}
+use mathlib.Core.List.{List}
+use lib.ListN.{length}
+use Rattle.model.specs.Sizes.{bucketSize, pagesFor}
+use Rattle.model.specs.Image.{blanks}
+use Rattle.model.specs.State.{State, cacheOf}
+use Rattle.geometry.specs.Geometry.{Limits}
+use Rattle.image.specs.Chip.{spareOnly}
+use Rattle.copying.specs.Fresh.{Fresh}
+
+-- in b's Write bucket, whose blank pages are enough
+pub record Appends (s : State) (b n : ℕ) (spare : List ℕ) : Type 0 where
+  pub limits : Limits (s .sizes)
+  pub bucket : cacheOf b (s .writes) < s .sizes .c
+  pub some : 1 ≤ n
+  pub room : n ≤ bucketSize (s .sizes)
+  pub pages : pagesFor (s .sizes) n ≤ blanks (s .sizes) (spareOnly spare) (cacheOf b (s .writes))
+
+-- in a new one, for which the write queue has a place
+pub record Starts (s : State) (n : ℕ) : Type 0 where
+  pub fresh : Fresh s n
+  pub place : length (s .writes) < 64

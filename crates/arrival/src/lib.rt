@@ -1,0 +1,95 @@
+// The log of a write: behind the pages of the back-end bucket's Write bucket, or in a new one; and the write accepted.
+use log::Log;
+use meter::Meter;
+use state::State;
+use steps::Turn;
+ghost use mathlib.Core.Path.{_≡_};
+ghost use Prim.Native.Nat.{_≤_, _<_};
+ghost use lib.ListN.{length};
+ghost use Rattle.model.specs.Sizes.{Device, pagesFor};
+ghost use Rattle.model.specs.State.{cacheOf};
+ghost use Rattle.model.specs.Steps.{_then_, makeRoom};
+ghost use Rattle.model.specs.Operations.{fits, appendLog, startLog};
+ghost use Rattle.geometry.specs.Geometry.{device, Lent};
+ghost use Rattle.image.specs.Chip.{Chip, spareOnly};
+ghost use Rattle.meter.specs.Run.{running};
+ghost use Rattle.queue.specs.View.{entriesOf};
+ghost use Rattle.state.specs.View.{viewOf};
+ghost use Rattle.steps.specs.Turns.{reached, after};
+ghost use Rattle.arrival.specs.Arrives.{Appends, Starts};
+
+// Whether b has a Write bucket with enough blank pages for a log of n bytes.
+pub fn fits(s: State, b: u16, n: usize, spare: &[u8]) -> bool
+    requires { ⌜ Chip (s .sizes) (now spare) ⌝ }
+    requires { ⌜ (cacheOf b (entriesOf (s .writes)) < s .sizes .c) × (n ≤ 65536) ⌝ }
+    ensures { λ r. ⌜ r ≡ fits (s .sizes) (spareOnly (now (spare .entry))) b (pagesFor (s .sizes) n) (viewOf s) ⌝ }
+{
+    if !s.writes.holds(b) {
+        return false;
+    }
+    let bucket = s.writes.cache_of(b) as usize;
+    let pages = geometry::pages_for(s.sizes, n);
+    pages <= image::blanks(s.sizes, bucket, spare)
+}
+
+// The log goes behind the pages of b's Write bucket.
+pub fn append_log(
+    meter: Meter,
+    s: State,
+    b: u16,
+    offset: u16,
+    bytes: &[u8],
+    flash: &mut [u8],
+    spare: &mut [u8],
+    disk: &mut [u8],
+) -> Turn
+    requires { ⌜ Lent (s .sizes) (now flash) (now spare) (now disk) ⌝ }
+    requires { ⌜ Appends (viewOf s) b (length (now bytes)) (now spare) ⌝ }
+    ensures { λ r. ⌜ reached (now (flash .exit)) (now (spare .exit)) (now (disk .exit)) r ≡ after (s .sizes) (appendLog (s .sizes) (device (now (flash .entry)) (now (spare .entry)) (now (disk .entry))) b offset (now (bytes .entry)) (viewOf s)) (running (now (flash .entry)) (now (spare .entry)) (now (disk .entry)) meter) ⌝ }
+    ensures { λ _. ⌜ Lent (s .sizes) (now (flash .exit)) (now (spare .exit)) (now (disk .exit)) ⌝ }
+{
+    let z = s.sizes;
+    let bucket = s.writes.cache_of(b) as usize;
+    let blanks = image::blanks(z, bucket, spare);
+    let epoch = image::epoch_of(z, bucket, spare);
+    let pages = geometry::pages_for(z, bytes.len());
+    let first = z.p - blanks;
+    let priority = (blanks - pages) as u8;
+    let target = Log {
+        bucket,
+        first,
+        kind: 2,
+        epoch,
+        back: b,
+        offset,
+    };
+    let left = log::program_log(meter, z, target, bytes, flash, spare, disk);
+    let state = s.accept(b, priority);
+    Turn { meter: left, state }
+}
+
+// The log goes into a bucket just allocated, which becomes b's Write bucket.
+pub fn start_log(
+    meter: Meter,
+    s: State,
+    b: u16,
+    offset: u16,
+    bytes: &[u8],
+    flash: &mut [u8],
+    spare: &mut [u8],
+    disk: &mut [u8],
+) -> Turn
+    requires { ⌜ Lent (s .sizes) (now flash) (now spare) (now disk) ⌝ }
+    requires { ⌜ Starts (viewOf s) (length (now bytes)) ⌝ }
+    ensures { λ r. ⌜ ((d : Device) → reached (now (flash .exit)) (now (spare .exit)) (now (disk .exit)) r ≡ after (s .sizes) (makeRoom (viewOf s) then startLog (s .sizes) d b offset (now (bytes .entry))) (running (now (flash .entry)) (now (spare .entry)) (now (disk .entry)) meter)) ⌝ }
+    ensures { λ _. ⌜ Lent (s .sizes) (now (flash .exit)) (now (spare .exit)) (now (disk .exit)) ⌝ }
+{
+    let z = s.sizes;
+    let pages = geometry::pages_for(z, bytes.len());
+    let priority = (z.p - pages) as u8;
+    let fresh = copying::fresh_log(meter, s, 2, b, offset, bytes, flash, spare, disk);
+    let left = fresh.meter;
+    let arrived = fresh.state.take_write(b);
+    let state = arrived.accept(b, priority);
+    Turn { meter: left, state }
+}

@@ -1,0 +1,5 @@
+pub mod Failed
+pub mod Rest
+pub mod Ranges
+pub mod Opens
+pub mod Backs

@@ -1,0 +1,91 @@
+-- What a call may rely on once it is not turned down.
+use Prim.Native.Nat.{ℕ, _≤_}
+use mathlib.Core.Path.{_≡_}
+use mathlib.Core.Bool.{true}
+use mathlib.Core.List.{List, [], _∷_, _++_, append-nil}
+use lib.Dec.{leb}
+use borrow.Author.Tests.{leb-true}
+use Rattle.model.specs.declared.Sizes.{Sizes}
+use Rattle.model.specs.Sizes.{Device, limits}
+use Rattle.model.specs.Image.{wellFormed}
+use Rattle.model.specs.State.{State, stateFits}
+use Rattle.model.specs.Operations.{lastEpoch}
+use Rattle.model.specs.Calls.{Test, firstFailed, lentTests, runningTests, placeTests}
+use Rattle.model.proofs.Calling.{Range, first-passed, place-passed}
+use Rattle.geometry.specs.Geometry.{Limits, Lent}
+use Rattle.geometry.proofs.Passed.{limits-hold, lengths-hold, lent-passed}
+use Rattle.image.specs.Chip.{Chip}
+use Rattle.state.specs.View.{Bounded}
+use Rattle.state.proofs.Allocate.{Queued, queues-hold, bounded}
+use Rattle.state.proofs.Below.{Below, queues-below}
+use Rattle.checks.proofs.Failed.{none-fails}
+use Rattle.checks.proofs.Rest.{running-numbered}
+
+-- numbers 1 and 2 are passed
+pub chip-opens : (z : Sizes) (d : Device) → firstFailed (lentTests z d) ≡ 0 → Chip z (d .spare)
+chip-opens z d h = let p = lent-passed z d h in record { limits = p .0; spare-length = p .1 .spare-length }
+
+-- numbers 1, 2 and 4 are passed
+pub record Image (z : Sizes) (d : Device) : Type 0 where
+  pub limits : Limits z
+  pub lent : Lent z (d .flash) (d .spare) (d .disk)
+  pub formed : wellFormed z d ≡ true
+
+pub image-opens : (z : Sizes) (d : Device) → firstFailed (lentTests z d ++ ((4, wellFormed z d) ∷ [])) ≡ 0 → Image z d
+unfolding lentTests
+image-opens z d h =
+    let one = first-passed 0 _ _ h in
+    let two = first-passed 1 _ _ (one .1) in
+    let four = first-passed 3 _ _ (two .1) in
+    record { limits = limits-hold z (one .0); lent = lengths-hold z d (two .0); formed = four .0 }
+
+-- numbers 1 to 5 are passed
+pub record Open (s : State) (d : Device) : Type 0 where
+  pub image : Image (s .sizes) d
+  pub running : s .running ≡ true
+  pub limited : limits (s .sizes) ≡ true
+  pub fits : stateFits s d ≡ true
+
+module _ (s : State) (d : Device) where
+  pub running-opens : firstFailed (runningTests s d) ≡ 0 → Open s d
+  unfolding runningTests lentTests
+  running-opens h =
+      let one = first-passed 0 _ _ h in
+      let two = first-passed 1 _ _ (one .1) in
+      let three = first-passed 2 _ _ (two .1) in
+      let four = first-passed 3 _ _ (three .1) in
+      let five = first-passed 4 _ _ (four .1) in
+      record {
+        image = record { limits = limits-hold (s .sizes) (one .0); lent = lengths-hold (s .sizes) d (two .0); formed = four .0 };
+        running = three .0;
+        limited = one .0;
+        fits = five .0;
+      }
+
+  -- numbers 1 to 7
+  pub read-opens : (b off n : ℕ) → firstFailed (runningTests s d ++ placeTests (s .sizes) b off n) ≡ 0 → Open s d × Range (s .sizes) b off n
+  read-opens b off n h =
+      let place = placeTests (s .sizes) b off n in
+      let both = none-fails (runningTests s d) place (running-numbered s d) h in
+      (running-opens (both .0), place-passed (s .sizes) b off n [] (rw (append-nil place) (both .1)) .0)
+
+  -- numbers 1 to 8
+  pub write-opens : (b off n : ℕ) → firstFailed (runningTests s d ++ (placeTests (s .sizes) b off n ++ ((8, leb (s .next) lastEpoch) ∷ []))) ≡ 0
+      → Open s d × Range (s .sizes) b off n × (s .next ≤ lastEpoch)
+  write-opens b off n h =
+      let epochs : List Test = (8, leb (s .next) lastEpoch) ∷ [] in
+      let both = none-fails (runningTests s d) (placeTests (s .sizes) b off n ++ epochs) (running-numbered s d) h in
+      let place = place-passed (s .sizes) b off n epochs (both .1) in
+      (running-opens (both .0), place .0, leb-true (s .next) lastEpoch (first-passed 7 _ _ (place .1) .0))
+
+-- ---- what the state's queues then are
+
+module _ {s : State} {d : Device} (o : Open s d) where
+  pub open-queued : Queued s
+  open-queued = queues-hold s d (o .fits)
+
+  pub open-below : Below s
+  open-below = queues-below s (open-queued .below)
+
+  pub open-bounded : Bounded s
+  open-bounded = bounded s d (o .fits) (o .limited)

@@ -1,0 +1,90 @@
+-- The state that an eviction leaves: another step may follow.
+use Prim.Native.Nat.{ℕ, _+_, _≤_, _<_}
+use mathlib.Core.Path.{_≡_, refl, sym, ap, _∙_}
+use mathlib.Core.Bool.{true, false}
+use mathlib.Core.Logic.{_⊎_, inl, inr}
+use mathlib.Core.List.{List}
+use native.Mathlib.Omega.{arith}
+use lib.ListN.{length}
+use Rattle.lists.proofs.Tests.{true-or-false}
+use Rattle.model.specs.declared.Sizes.{Sizes}
+use Rattle.model.specs.declared.Entry.{Entry}
+use Rattle.model.specs.Sizes.{Device, bucketSize}
+use Rattle.model.specs.State.{State, moved, holds, cachesOf, without}
+use Rattle.model.specs.Steps.{_then_, move, nothing, makeRoom, taken, takeCopy, dropWrite, copy, merged, evict}
+use Rattle.queue.proofs.Without.{without-length}
+use Rattle.meter.specs.Run.{Run, runAll}
+use Rattle.steps.specs.Turns.{Progress, after}
+use Rattle.steps.specs.Ready.{Orderly, Ready}
+use Rattle.steps.proofs.Kept.{Roomed, roomed, copied-orderly, dropped-orderly, dropped-ready}
+use Rattle.steps.proofs.Turns.{after-then}
+use Rattle.copying.specs.Fresh.{Copies}
+use Rattle.evict.specs.PutAway.{Evicts, putAway}
+
+-- a queue that holds b is longer than what is left of it
+fewer : (b : ℕ) (l : List Entry) → holds b l ≡ true → length (without b l) < length l
+unfolding cachesOf
+fewer b l h = omega (arith, rw h at (without-length b l))
+
+-- the read bucket gives up its place to the copy
+pub copies : {s : State} {b n : ℕ} → Evicts s b → holds b (s .reads) ≡ true → n ≡ bucketSize (s .sizes) → Copies s b n
+copies {s} {b} e h whole = record {
+  ready = e .ready;
+  place = omega (arith, fewer b (s .reads) h, e .ready .orderly .bounded .reads);
+  epoch = e .epoch;
+  whole = whole;
+}
+
+-- the bytes are put away, the Write bucket is still there
+pub record Away (s t : State) : Type 0 where
+  pub orderly : Orderly t
+  pub sizes : t .sizes ≡ s .sizes
+  pub writes : t .writes ≡ s .writes
+  pub next : t .next ≤ s .next + 1
+
+pub record Evicted (s t : State) : Type 0 where
+  pub ready : Ready t
+  pub sizes : t .sizes ≡ s .sizes
+  pub writes : length (t .writes) < length (s .writes)
+  pub next : t .next ≤ s .next + 1
+
+module _ (s : State) (b : ℕ) (e : Evicts s b) where
+  copied-away : holds b (s .reads) ≡ true → Away s (takeCopy b (makeRoom s .state))
+  unfolding takeCopy taken moved
+  copied-away h =
+      let r = roomed s (e .ready) in
+      let place : length (without b (makeRoom s .state .reads)) < 64 = rw (r .reads) (omega (arith, fewer b (s .reads) h, e .ready .orderly .bounded .reads)) in
+      let orderly = copied-orderly b (makeRoom s .state) (r .orderly) (r .some) place (omega (arith, r .next, e .epoch)) in
+      record { orderly = orderly; sizes = r .sizes; writes = r .writes; next = omega (arith, r .next) }
+
+  pub away : (z : Sizes) (bytes : List ℕ) → Away s (putAway z b bytes s .state)
+  unfolding putAway copy _then_
+  away z bytes = go (true-or-false (holds b (s .reads)))
+    where
+      go : (holds b (s .reads) ≡ true) ⊎ (holds b (s .reads) ≡ false) → Away s (putAway z b bytes s .state)
+      go (inl h) = rw h (copied-away h)
+      go (inr h) = rw h (record { orderly = e .ready .orderly; sizes = refl; writes = refl; next = omega arith })
+
+  -- from the run that put the bytes away
+  module _ (z : Sizes) (bytes : List ℕ) (r : Run) {p : Progress} (q : p ≡ after z (putAway z b bytes s) r) where
+    pub dropped-left : Orderly (dropWrite b (p .state))
+    unfolding after
+    dropped-left = dropped-orderly b (p .state) (rw (ap (λ (x : Progress). x .state) q) (away z bytes .orderly))
+
+    pub evicted-by : (d : Device) → bytes ≡ merged z s d b → record { run = p .run; state = dropWrite b (p .state) } ≡ after z (evict z d b s) r
+    unfolding after evict putAway move nothing runAll
+    evicted-by d h =
+        ap (λ (x : Progress). record { run = x .run; state = dropWrite b (x .state) }) q
+        ∙ ap (λ (l : List ℕ). record { run = runAll z (putAway z b l s .stores) r; state = dropWrite b (putAway z b l s .state) }) h
+        ∙ sym (after-then z (putAway z b (merged z s d b) s) (move (dropWrite b)) r)
+
+  dropped : {t : State} → Away s t → Evicted s (dropWrite b t)
+  unfolding dropWrite moved
+  dropped {t} a =
+      let h : holds b (t .writes) ≡ true = ap (holds b) (a .writes) ∙ e .held in
+      let ready = dropped-ready b t (a .orderly) h in
+      record { ready = ready; sizes = a .sizes; writes = omega (arith, fewer b (t .writes) h, ap length (a .writes)); next = a .next }
+
+  pub evicted : (z : Sizes) (d : Device) → Evicted s (evict z d b s .state)
+  unfolding evict putAway _then_ move nothing
+  evicted z d = dropped (away z (merged z s d b))

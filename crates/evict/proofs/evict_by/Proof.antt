@@ -1,0 +1,65 @@
+use Rattle.evict.proofs.Evicted.{dropped-left, evicted-by}
+use Rattle.steps.proofs.Kept.{chip-some}
+use Rattle.steps.proofs.Inside.{cache-inside}
+use Rattle.queue.specs.View.{entriesOf}
+use Rattle.state.specs.View.{viewOf}
+use Rattle.geometry.specs.Geometry.{device}
+use native.Mathlib.Omega.{arith}
+use Rattle.evict.proofs.evict_by.Statement.{statement}
+use Rattle.evict.proofs.evict_by.Tie as tie
+
+merged-into-requires : tie.Need-merged-into-requires
+merged-into-requires c κs = let start = c .before .before .before .before .before .before .before .before in
+    let a = start .args in
+    let evicts = start .pre .1 .0 .0 in
+    let orderly = evicts .ready .orderly in (
+      record {
+        limits = orderly .limits;
+        lent = start .pre .0;
+        well-formed = start .pre .1 .0 .1;
+        back = evicts .back;
+        read = cache-inside (a .s .sizes .c) (a .b) (entriesOf (a .s .reads)) (orderly .reads) (chip-some orderly);
+        write = cache-inside (a .s .sizes .c) (a .b) (entriesOf (a .s .writes)) (orderly .writes) (chip-some orderly);
+      },
+      start .pre .1 .1,
+    )
+
+put-away-requires : tie.Need-put-away-requires
+put-away-requires c κs = let p = c .before .before .before .before .before .before .before .before .before .before .before .before .before .before .before .pre in
+    (p .0, (p .1 .0 .0, omega (arith, c .before .before .before .before .before .buffer .given, p .1 .1)))
+
+drop-write-requires : tie.Need-drop-write-requires
+drop-write-requires c κs = let start = c .before .before .before .before .before .before .before .before .before .before .before .before .before .before .before .before .before .before .before .before .before .before .before in
+    dropped-left (viewOf (start .args .s)) (start .args .b) (start .pre .1 .0 .0) _ _ _ (c .before .before .before .before .before .before .before .put-away .ensures .0) .bounded
+
+same-length : tie.Need-same-length
+same-length c = omega (arith, c .before .before .before .before .before .before .before .before .before .before .before .before .before .before .buffer .given)
+
+same-length-2 : tie.Need-same-length-2
+same-length-2 c = omega (arith, c .before .before .before .before .before .before .before .before .put-away .ensures .1 .flash-length, c .before .before .before .before .before .before .before .before .before .before .before .before .before .before .before .before .before .before .before .before .before .before .before .before .pre .0 .flash-length)
+
+same-length-3 : tie.Need-same-length-3
+same-length-3 c = omega (arith, c .before .before .before .before .before .before .before .before .put-away .ensures .1 .spare-length, c .before .before .before .before .before .before .before .before .before .before .before .before .before .before .before .before .before .before .before .before .before .before .before .before .pre .0 .spare-length)
+
+same-length-4 : tie.Need-same-length-4
+same-length-4 c = omega (arith, c .before .before .before .before .before .before .before .before .put-away .ensures .1 .disk-length, c .before .before .before .before .before .before .before .before .before .before .before .before .before .before .before .before .before .before .before .before .before .before .before .before .pre .0 .disk-length)
+
+returns : tie.Need-returns
+returns c = let start = c .before .before .before .before .before .before .before .before .before .before .before .before .before .before .before .before .before .before .before .before .before .before .before .before in
+    let a = start .args in
+    let d = device (a .flash .now) (a .spare .now) (a .disk .now) in
+    let put = c .before .before .before .before .before .before .before .before .put-away .ensures in
+    (rw (c .drop-write .ensures) (evicted-by (viewOf (a .s)) (a .b) (start .pre .1 .0 .0) (a .s .sizes) _ _ (put .0) d (c .before .before .before .before .before .before .before .before .before .before .before .before .before .before .before .merged-into .ensures)), put .1)
+
+pub evict-by-spec : {M : Type 1} → statement M
+evict-by-spec =
+    tie.close
+    (tie.spec
+    merged-into-requires
+    put-away-requires
+    drop-write-requires
+    same-length
+    same-length-2
+    same-length-3
+    same-length-4
+    returns)

@@ -1,0 +1,48 @@
+use Rattle.geometry.proofs.Passed.{products}
+use Rattle.model.specs.Sizes.{bucketSize}
+use lib.ListN.{length-take}
+use native.Mathlib.Omega.{arith}
+use borrow.Author.Needs.{needs}
+use Rattle.evict.proofs.evict_small.Statement.{statement}
+use Rattle.evict.proofs.evict_small.Tie as tie
+
+mul-size : tie.Need-mul-size
+mul-size c = omega (arith, products (c .before .before .before .before .before .pre .1 .0 .0 .ready .orderly .limits))
+
+array-borrow-prefix-buffer : tie.Need-array-borrow-prefix-buffer
+unfolding bucketSize
+array-borrow-prefix-buffer c = omega (arith, c .before .before .before .before .before .pre .1 .1)
+
+slice-aggregate-evict-by : tie.Need-slice-aggregate-evict-by
+unfolding bucketSize
+slice-aggregate-evict-by c = simp length-take (omega (arith, c .before .before .before .before .before .before .pre .1 .1))
+
+evict-by-requires : tie.Need-evict-by-requires
+unfolding bucketSize
+evict-by-requires c κs = let p = c .before .before .before .before .before .before .before .before .before .pre in
+    (p .0, (p .1 .0, simp length-take (omega (arith, p .1 .1))))
+
+same-length : tie.Need-same-length
+same-length c = search needs
+
+same-length-2 : tie.Need-same-length-2
+same-length-2 c = search needs
+
+same-length-3 : tie.Need-same-length-3
+same-length-3 c = search needs
+
+returns : tie.Need-returns
+returns c = c .before .before .before .before .before .before .before .evict-by .ensures
+
+pub evict-small-spec : {M : Type 1} → statement M
+evict-small-spec =
+    tie.close
+    (tie.spec
+    mul-size
+    array-borrow-prefix-buffer
+    slice-aggregate-evict-by
+    evict-by-requires
+    same-length
+    same-length-2
+    same-length-3
+    returns)

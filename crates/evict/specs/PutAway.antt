@@ -1,0 +1,23 @@
+-- Evictions: when one can be made, and its first half.
+use Prim.Native.Nat.{ℕ, _≤_, _<_}
+use mathlib.Core.Path.{_≡_}
+use mathlib.Core.Bool.{true}
+use mathlib.Core.List.{List}
+use Rattle.lists.specs.Lists.{if_then_else_}
+use Rattle.model.specs.declared.Sizes.{Sizes}
+use Rattle.model.specs.Spare.{dirtyKind}
+use Rattle.model.specs.Stores.{unitStores}
+use Rattle.model.specs.State.{State, holds}
+use Rattle.model.specs.Steps.{Plan, copy}
+use Rattle.steps.specs.Ready.{Ready}
+
+-- the back-end bucket b of the disk has a Write bucket, and the next epoch is one that spare bytes can say
+pub record Evicts (s : State) (b : ℕ) : Type 0 where
+  pub ready : Ready s
+  pub back : b < s .sizes .b
+  pub held : holds b (s .writes) ≡ true
+  pub epoch : s .next ≤ 4294967295
+
+-- "With a read bucket: allocate, program all P pages as Dirty .. Without: write all P units in rising order"
+unfoldable pub putAway : Sizes → ℕ → List ℕ → State → Plan
+putAway z b bytes s = if holds b (s .reads) then copy z dirtyKind b bytes s else record { stores = unitStores z b bytes; state = s }

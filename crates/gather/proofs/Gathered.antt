@@ -1,0 +1,63 @@
+-- Base and merged bytes are as many as a bucket has.
+use Prim.Native.Nat.{ℕ}
+use mathlib.Core.Path.{_≡_, sym, ap, _∙_}
+use mathlib.Core.Bool.{Bool, true, false}
+use mathlib.Core.List.{List}
+use native.Mathlib.Nat.{le-refl}
+use native.Mathlib.Omega.{arith}
+use lib.ListN.{length}
+use lib.Seq.{take-all}
+use Rattle.lists.specs.Lists.{if_then_else_, part}
+use Rattle.model.specs.Sizes.{bucketSize, flashSize, spareSize, diskSize}
+use Rattle.model.specs.Stores.{bucketBytes, diskBytes}
+use Rattle.model.specs.Image.{merge}
+use Rattle.model.specs.State.{State, holds, cacheOf}
+use Rattle.model.specs.Steps.{baseBytes, merged}
+use Rattle.model.proofs.Frames.{Lengths, length-bucket, length-disk}
+use Rattle.geometry.specs.Geometry.{device}
+use Rattle.merge.specs.Window.{Readable}
+use Rattle.merge.proofs.Logs.{merged-length}
+use Rattle.merge.proofs.SameChip.{same-merge}
+use Rattle.gather.specs.Sources.{Sources}
+
+module _ {s : State} {b : ℕ} {flash spare disk : List ℕ} (sources : Sources s b flash spare disk) where
+  pub readable : Readable (s .sizes) flash spare
+  readable = record {
+    limits = sources .limits;
+    flash-length = sources .lent .flash-length;
+    spare-length = sources .lent .spare-length;
+    well-formed = sources .well-formed;
+  }
+
+  lengths : Lengths (s .sizes) (device flash spare disk)
+  unfolding flashSize spareSize diskSize
+  lengths = record { flash-is = sources .lent .flash-length; spare-is = sources .lent .spare-length; disk-is = sources .lent .disk-length }
+
+  pub base-size : length (baseBytes (s .sizes) s (device flash spare disk) b) ≡ bucketSize (s .sizes)
+  unfolding baseBytes
+  base-size = at (holds b (s .reads))
+    where
+      at : (t : Bool)
+          → length (if t then bucketBytes (s .sizes) (device flash spare disk) (cacheOf b (s .reads)) else diskBytes (s .sizes) (device flash spare disk) b)
+          ≡ bucketSize (s .sizes)
+      at true = length-bucket (s .sizes) (device flash spare disk) lengths (cacheOf b (s .reads)) (sources .read)
+      at false = length-disk (s .sizes) (device flash spare disk) lengths b (sources .back)
+
+  pub merged-size : length (merged (s .sizes) s (device flash spare disk) b) ≡ bucketSize (s .sizes)
+  unfolding merged merge
+  merged-size = at (holds b (s .writes))
+    where
+      base : List ℕ
+      base = baseBytes (s .sizes) s (device flash spare disk) b
+
+      at : (t : Bool) → length (if t then merge (s .sizes) (device flash spare disk) (cacheOf b (s .writes)) base else base) ≡ bucketSize (s .sizes)
+      at true =
+          ap length (sym (same-merge (s .sizes) (device flash spare disk) (cacheOf b (s .writes)) base))
+          ∙ merged-length readable (sources .write) base base-size (s .sizes .p) (le-refl (s .sizes .p))
+      at false = base-size
+
+  -- a window of a bucket's size shows them all
+  pub all-shown : (n : ℕ) → n ≡ bucketSize (s .sizes)
+      → part (merged (s .sizes) s (device flash spare disk) b) 0 n ≡ merged (s .sizes) s (device flash spare disk) b
+  unfolding part
+  all-shown n h = take-all n (merged (s .sizes) s (device flash spare disk) b) (omega (arith, merged-size))

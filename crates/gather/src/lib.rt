@@ -1,0 +1,74 @@
+// The bytes of a back-end bucket: its Write bucket's complete logs over its read bucket, or over the disk if there is none.
+// A window is a lent buffer that comes to show a part of them; no other byte is copied.
+use state::State;
+ghost use mathlib.Core.Path.{_≡_};
+ghost use mathlib.Core.List.{List};
+ghost use Prim.Native.Nat.{ℕ, _+_, _*_, _≤_, _<_};
+ghost use lib.ListN.{length};
+ghost use Rattle.lists.specs.Lists.{part};
+ghost use Rattle.model.specs.Sizes.{bucketSize, flashSize, diskSize};
+ghost use Rattle.model.specs.State.{cacheOf};
+ghost use Rattle.model.specs.Steps.{baseBytes, merged};
+ghost use Rattle.geometry.specs.Geometry.{device, Limits};
+ghost use Rattle.queue.specs.View.{entriesOf};
+ghost use Rattle.state.specs.View.{viewOf};
+ghost use Rattle.gather.specs.Sources.{Sources};
+
+// Shows, from index `from` on, the piece number `index` of an area of pieces of `size` bytes.
+pub fn piece_range(area: &[u8], size: usize, index: usize, from: usize, window: &mut [u8])
+    requires { ⌜ index * size + size ≤ length (now area) ⌝ }
+    requires { ⌜ from + length (now window) ≤ size ⌝ }
+    ensures { λ _. ⌜ now (window .exit) ≡ part (part (now (area .entry)) (index * size) size) from (length (now (window .entry))) ⌝ }
+{
+    let at = index * size + from;
+    let end = at + window.len();
+    area::copy_over(window, &area[at..end]);
+}
+
+// The read bucket's bytes, or the disk's.
+fn base_range(s: State, b: u16, from: usize, flash: &[u8], disk: &[u8], window: &mut [u8])
+    requires { ⌜ Limits (s .sizes) ⌝ }
+    requires { ⌜ (length (now flash) ≡ flashSize (s .sizes)) × (length (now disk) ≡ diskSize (s .sizes)) ⌝ }
+    requires { ⌜ (cacheOf b (entriesOf (s .reads)) < s .sizes .c) × (b < s .sizes .b) ⌝ }
+    requires { ⌜ from + length (now window) ≤ bucketSize (s .sizes) ⌝ }
+    ensures { λ _. ⌜ ((spare : List ℕ) → now (window .exit) ≡ part (baseBytes (s .sizes) (viewOf s) (device (now (flash .entry)) spare (now (disk .entry))) b) from (length (now (window .entry)))) ⌝ }
+{
+    let z = s.sizes;
+    let size = z.p * z.s;
+    if s.reads.holds(b) {
+        let c = s.reads.cache_of(b) as usize;
+        piece_range(flash, size, c, from, window);
+    } else {
+        piece_range(disk, size, b as usize, from, window);
+    }
+}
+
+// The window shows the bytes of the back-end bucket b from an index on.
+pub fn merged_range(
+    s: State,
+    b: u16,
+    from: usize,
+    flash: &[u8],
+    spare: &[u8],
+    disk: &[u8],
+    window: &mut [u8],
+)
+    requires { ⌜ Sources (viewOf s) b (now flash) (now spare) (now disk) ⌝ }
+    requires { ⌜ from + length (now window) ≤ bucketSize (s .sizes) ⌝ }
+    ensures { λ _. ⌜ now (window .exit) ≡ part (merged (s .sizes) (viewOf s) (device (now (flash .entry)) (now (spare .entry)) (now (disk .entry))) b) from (length (now (window .entry))) ⌝ }
+{
+    base_range(s, b, from, flash, disk, window);
+    if s.writes.holds(b) {
+        let c = s.writes.cache_of(b) as usize;
+        merge::merge_range(s.sizes, c, from, flash, spare, window);
+    }
+}
+
+// All its bytes.
+pub fn merged_into(s: State, b: u16, flash: &[u8], spare: &[u8], disk: &[u8], buffer: &mut [u8])
+    requires { ⌜ Sources (viewOf s) b (now flash) (now spare) (now disk) ⌝ }
+    requires { ⌜ length (now buffer) ≡ bucketSize (s .sizes) ⌝ }
+    ensures { λ _. ⌜ now (buffer .exit) ≡ merged (s .sizes) (viewOf s) (device (now (flash .entry)) (now (spare .entry)) (now (disk .entry))) b ⌝ }
+{
+    merged_range(s, b, 0, flash, spare, disk, buffer);
+}

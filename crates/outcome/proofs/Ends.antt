@@ -1,0 +1,88 @@
+-- How a call's outcome follows from its refusal or its run; and the view of the struct handed back.
+use Prim.Native.Nat.{ℕ, _≤_}
+use mathlib.Core.Path.{_≡_, refl, sym, ap, _∙_}
+use mathlib.Core.Bool.{Bool, true, false}
+use mathlib.Core.List.{List, []}
+use lib.ListN.{length}
+use lib.Dec.{ltb, eqb}
+use borrow.Author.Tests.{ne-eqb}
+use Rattle.lists.specs.Lists.{if_then_else_, empty}
+use Rattle.model.specs.declared.Answer.the-variants.{Done, Idle}
+use Rattle.model.specs.Sizes.{Device}
+use Rattle.model.specs.State.{State}
+use Rattle.model.specs.Steps.{Plan}
+use Rattle.model.specs.Calls.{Call, formatCall, readCall, writeCall, eraseCall, drainCall, recoverCall, refusal, sizesOf, planOf, doneAnswer, lentBuffer, readBuffer, carryOut, turnedDown, call}
+use Rattle.meter.specs.Run.{Run, fresh, runAll, ended}
+use Rattle.meter.proofs.Runs.{run-left, run-ended}
+use Rattle.state.specs.declared.State.{State as Struct}
+use Rattle.state.specs.View.{viewOf, stateOf}
+use Rattle.state.proofs.View.{view-state, view-halted}
+use Rattle.outcome.specs.Handed.{handedBack, givenBack, handed, finished, turned}
+
+-- a call carried out wholly is answered Done or Idle: it gives the new state's struct
+module _ (s : Struct) (new : State) where
+  given-new : (k : Call) (v : State) → givenBack s (doneAnswer k v) new ≡ stateOf new
+  unfolding givenBack doneAnswer
+  given-new (formatCall z) v = refl
+  given-new (readCall b off buffer) v = refl
+  given-new (writeCall b off bytes) v = refl
+  given-new eraseCall v = go (empty (v .gc))
+    where
+      go : (t : Bool) → givenBack s (if t then Idle else Done) new ≡ stateOf new
+      go true = refl
+      go false = refl
+  given-new drainCall v = refl
+  given-new (recoverCall z) v = refl
+
+module _ (n : ℕ) (k : Call) (s : Struct) (d : Device) where
+  -- what the allowance allowed, from what is left of it
+  pub left-within : (p : Plan) {r : Run} → r ≡ runAll (sizesOf k (viewOf s)) (p .stores) (fresh d n) → r .meter .left ≤ n
+  left-within p e = rw e (run-left (sizesOf k (viewOf s)) (p .stores) d n)
+
+  run-handed : (p : Plan) (r : Run)
+      → handedBack (r .device) (if r .meter .cut then lentBuffer k else readBuffer k (viewOf s) d) (finished (r .meter) n (doneAnswer k (viewOf s)) s (p .state))
+      ≡ handed s (ended n k (viewOf s) d p r)
+  unfolding finished handed ended givenBack
+  run-handed p r = go (r .meter .cut) refl
+    where
+      go : (t : Bool) → r .meter .cut ≡ t
+          → handedBack (r .device) (if r .meter .cut then lentBuffer k else readBuffer k (viewOf s) d) (finished (r .meter) n (doneAnswer k (viewOf s)) s (p .state))
+          ≡ handed s (ended n k (viewOf s) d p r)
+      go true h = rw h
+      go false h = rw (h, given-new s (p .state) k (viewOf s))
+
+  -- An entry that asked for all stores of a plan, from a whole allowance, hands back what the definitions say.
+  pub handed-run : (p : Plan) {r : Run} → r ≡ runAll (sizesOf k (viewOf s)) (p .stores) (fresh d n)
+      → handedBack (r .device) (if r .meter .cut then lentBuffer k else readBuffer k (viewOf s) d) (finished (r .meter) n (doneAnswer k (viewOf s)) s (p .state))
+      ≡ handed s (carryOut n k (viewOf s) d p)
+  handed-run p {r} e = run-handed p r ∙ ap (λ (q : Run). handed s (ended n k (viewOf s) d p q)) e ∙ ap (handed s) (run-ended n k (viewOf s) d p)
+
+  -- the same for a call that is lent no read buffer
+  pub handed-quiet : (p : Plan) {r : Run} → lentBuffer k ≡ [] → readBuffer k (viewOf s) d ≡ [] → r ≡ runAll (sizesOf k (viewOf s)) (p .stores) (fresh d n)
+      → handedBack (r .device) [] (finished (r .meter) n (doneAnswer k (viewOf s)) s (p .state)) ≡ handed s (carryOut n k (viewOf s) d p)
+  handed-quiet p {r} lent read e = ap (λ (b : List ℕ). handedBack (r .device) b (finished (r .meter) n (doneAnswer k (viewOf s)) s (p .state))) (sym (same (r .meter .cut))) ∙ handed-run p e
+    where
+      same : (t : Bool) → (if t then lentBuffer k else readBuffer k (viewOf s) d) ≡ []
+      same true = lent
+      same false = read
+
+  -- a call that passes all its tests
+  pub handed-taken : refusal k (viewOf s) d ≡ 0 → handed s (carryOut n k (viewOf s) d (planOf k (viewOf s) d)) ≡ handed s (call n k (viewOf s) d)
+  unfolding call
+  handed-taken h = rw h
+
+  -- a call that does not
+  pub handed-refused : (r : ℕ) → refusal k (viewOf s) d ≡ r → (r ≡ 0 → ⊥) → handedBack d (lentBuffer k) (turned r s) ≡ handed s (call n k (viewOf s) d)
+  unfolding call turnedDown handed givenBack
+  handed-refused r h ne = rw (h, ne-eqb r 0 ne)
+
+  -- The struct handed back is one of the outcome's state.
+  pub handed-view : viewOf (handed s (call n k (viewOf s) d) .outcome .state) ≡ call n k (viewOf s) d .state
+  unfolding call carryOut turnedDown handed givenBack
+  handed-view = go (eqb (refusal k (viewOf s) d) 0) (ltb n (length (planOf k (viewOf s) d .stores))) refl refl
+    where
+      go : (q t : Bool) → eqb (refusal k (viewOf s) d) 0 ≡ q → ltb n (length (planOf k (viewOf s) d .stores)) ≡ t
+          → viewOf (handed s (call n k (viewOf s) d) .outcome .state) ≡ call n k (viewOf s) d .state
+      go false t e f = rw e
+      go true true e f = rw (e, f) (view-halted s)
+      go true false e f = rw (e, f, given-new s (planOf k (viewOf s) d .state) k (viewOf s)) (view-state (planOf k (viewOf s) d .state))

@@ -1,0 +1,3 @@
+pub mod Yielded
+pub mod Opened
+pub mod Ended

@@ -1,0 +1,37 @@
+use Rattle.write.proofs.Ended.{write-left, write-handed}
+use Rattle.geometry.specs.Geometry.{device}
+use borrow.Author.Needs.{needs}
+use Rattle.write.proofs.write_bytes.Statement.{statement}
+use Rattle.write.proofs.write_bytes.Tie as tie
+
+write-log-requires : tie.Need-write-log-requires
+write-log-requires c κs = search needs
+
+finish-requires : tie.Need-finish-requires
+finish-requires c κs = let a = c .before .before .before .before .before .before .before .before .before .before .before .before .before .before .before .before .args in
+    write-left (a .allowance) (a .b) (a .offset) (a .bytes .now) (a .s) (device (a .flash .now) (a .spare .now) (a .disk .now)) (c .before .before .before .before .before .before .before .before .write-log .ensures .0)
+
+same-length : tie.Need-same-length
+same-length c = search needs
+
+same-length-2 : tie.Need-same-length-2
+same-length-2 c = search needs
+
+same-length-3 : tie.Need-same-length-3
+same-length-3 c = search needs
+
+returns : tie.Need-returns
+returns c = let a = c .before .before .before .before .before .before .before .before .before .before .before .before .before .before .before .before .before .args in
+    rw (c .finish .ensures)
+    (write-handed (a .allowance) (a .b) (a .offset) (a .bytes .now) (a .s) (device (a .flash .now) (a .spare .now) (a .disk .now)) (c .before .before .before .before .before .before .before .before .before .write-log .ensures .0))
+
+pub write-bytes-spec : {M : Type 1} → statement M
+write-bytes-spec =
+    tie.close
+    (tie.spec
+    write-log-requires
+    finish-requires
+    same-length
+    same-length-2
+    same-length-3
+    returns)

@@ -1,0 +1,111 @@
+use Rattle.write.proofs.Yielded.{fit-pages, way-left, written-by, write-starts}
+use Rattle.arrival.proofs.Arrived.{same-fits}
+use Rattle.steps.proofs.Kept.{chip-some}
+use Rattle.steps.proofs.Inside.{cache-inside}
+use Rattle.state.specs.View.{viewOf}
+use Rattle.queue.specs.View.{entriesOf}
+use Rattle.image.specs.Chip.{spareOnly}
+use Rattle.geometry.proofs.Passed.{products}
+use Rattle.geometry.specs.Geometry.{device}
+use Rattle.model.specs.Operations.{fits, write}
+use Rattle.model.specs.Sizes.{bucketSize, pagesFor}
+use lib.ListN.{length}
+use native.Mathlib.Omega.{arith}
+use mathlib.Core.Bool.{true, false}
+use mathlib.Core.Path.{_≡_, sym, _∙_}
+use borrow.Author.Needs.{needs}
+use Rattle.write.proofs.write_log.Statement.{statement}
+use Rattle.write.proofs.write_log.Tie as tie
+
+fits-requires : tie.Need-fits-requires
+unfolding bucketSize
+fits-requires c κs = let start = c .before .before .before .before .before in
+    let a = start .args in
+    let orderly = start .pre .1 .yields .ready .orderly in (
+      record { limits = orderly .limits; spare-length = start .pre .0 .spare-length },
+      (cache-inside (a .s .sizes .c) (a .b) (entriesOf (a .s .writes)) (orderly .writes) (chip-some orderly), omega (arith, start .pre .1 .room, products (orderly .limits))),
+    )
+
+append-log-requires : tie.Need-append-log-requires
+append-log-requires c κs = let start = c .before .before .before .before .before .before .before .before .before .before in
+    let a = start .args in
+    let writes = start .pre .1 in
+    let orderly = writes .yields .ready .orderly in
+    let pages = pagesFor (a .s .sizes) (length (a .bytes .now)) in (
+      start .pre .0,
+      record {
+        limits = orderly .limits;
+        bucket = cache-inside (a .s .sizes .c) (a .b) (entriesOf (a .s .writes)) (orderly .writes) (chip-some orderly);
+        some = writes .some;
+        room = writes .room;
+        pages = fit-pages (a .s .sizes) (spareOnly (a .spare .now)) (a .b) pages (viewOf (a .s)) (sym (c .before .before .before .before .fits2 .ensures) ∙ c .before .before .before .if1 .taken);
+      },
+    )
+
+same-length : tie.Need-same-length
+same-length c = search needs
+
+same-length-2 : tie.Need-same-length-2
+same-length-2 c = search needs
+
+same-length-3 : tie.Need-same-length-3
+same-length-3 c = search needs
+
+returns : tie.Need-returns
+unfolding write
+returns c = let a = c .before .before .before .before .before .before .before .before .before .before .before .before .before .before .before .before .before .args in
+    let z = a .s .sizes in
+    let d = device (a .flash .now) (a .spare .now) (a .disk .now) in
+    let pages = pagesFor z (length (a .bytes .now)) in
+    let fitting : fits z d (a .b) pages (viewOf (a .s)) ≡ true = sym (same-fits z d (a .b) pages (viewOf (a .s))) ∙ sym (c .before .before .before .before .before .before .before .before .before .before .before .fits2 .ensures) ∙ c .before .before .before .before .before .before .before .before .before .before .if1 .taken in
+    (rw fitting (c .before .before .before .before .before .before .append-log .ensures .0), c .before .before .before .before .before .before .append-log .ensures .1)
+
+make-way-requires : tie.Need-make-way-requires
+make-way-requires c κs = (c .before .before .before .before .before .before .before .before .before .before .pre .0, c .before .before .before .before .before .before .before .before .before .before .pre .1 .yields)
+
+start-log-requires : tie.Need-start-log-requires
+start-log-requires c κs = let start = c .before .before .before .before .before .before .before .before .before .before .before .before .before .before .before .before .before .before .before .before .before .before in
+    let a = start .args in
+    let d = device (a .flash .now) (a .spare .now) (a .disk .now) in
+    let made = c .before .before .before .before .before .before .before .before .before .before .before .make-way .ensures in
+    let way = way-left (viewOf (a .s)) (a .spare .now) (start .pre .1 .yields) d (a .b) _ (made .0) in
+    (rw (way .sizes) (made .1), write-starts (start .pre .1) way)
+
+same-length-4 : tie.Need-same-length-4
+same-length-4 c = search needs
+
+same-length-5 : tie.Need-same-length-5
+same-length-5 c = search needs
+
+same-length-6 : tie.Need-same-length-6
+same-length-6 c = search needs
+
+returns-2 : tie.Need-returns-2
+returns-2 c = let start = c .before .before .before .before .before .before .before .before .before .before .before .before .before .before .before .before .before .before .before .before .before .before .before .before .before .before .before .before .before in
+    let a = start .args in
+    let z = a .s .sizes in
+    let d = device (a .flash .now) (a .spare .now) (a .disk .now) in
+    let pages = pagesFor z (length (a .bytes .now)) in
+    let full : fits z d (a .b) pages (viewOf (a .s)) ≡ false = sym (same-fits z d (a .b) pages (viewOf (a .s))) ∙ sym (c .before .before .before .before .before .before .before .before .before .before .before .before .before .before .before .before .before .before .before .before .before .before .before .fits2 .ensures) ∙ c .before .before .before .before .before .before .before .before .before .before .before .before .before .before .before .before .before .before .before .before .before .before .if1 .left in
+    let made = c .before .before .before .before .before .before .before .before .before .before .before .before .before .before .before .before .before .before .make-way .ensures in
+    let started = c .before .before .before .before .before .before .start-log .ensures in (
+      written-by (viewOf (a .s)) (a .spare .now) (start .pre .1 .yields) d (a .b) _ (made .0) (a .offset) (a .bytes .now) full (started .0 d),
+      rw (way-left (viewOf (a .s)) (a .spare .now) (start .pre .1 .yields) d (a .b) _ (made .0) .sizes) at (started .1),
+    )
+
+pub write-log-spec : {M : Type 1} → statement M
+write-log-spec =
+    tie.close
+    (tie.spec
+    fits-requires
+    append-log-requires
+    same-length
+    same-length-2
+    same-length-3
+    returns
+    make-way-requires
+    start-log-requires
+    same-length-4
+    same-length-5
+    same-length-6
+    returns-2)

@@ -1,0 +1,24 @@
+-- What the tests leave a write to rely on.
+use Prim.Native.Nat.{ℕ, _≤_, _<_}
+use mathlib.Core.Path.{_≡_}
+use mathlib.Core.Bool.{true}
+use mathlib.Core.List.{List}
+use Rattle.model.specs.Sizes.{bucketSize}
+use Rattle.model.specs.Image.{wellFormed}
+use Rattle.model.specs.State.{State, holds}
+use Rattle.model.specs.Operations.{lastEpoch}
+use Rattle.image.specs.Chip.{spareOnly}
+use Rattle.steps.specs.Ready.{Ready}
+
+-- any Write bucket can be evicted, and an epoch is left for the log
+pub record Yields (s : State) (spare : List ℕ) : Type 0 where
+  pub ready : Ready s
+  pub well-formed : wellFormed (s .sizes) (spareOnly spare) ≡ true
+  pub backs : (k : ℕ) → holds k (s .writes) ≡ true → k < s .sizes .b
+  pub epochs : s .next ≤ lastEpoch
+
+-- n bytes fit into a bucket
+pub record Writes (s : State) (n : ℕ) (spare : List ℕ) : Type 0 where
+  pub yields : Yields s spare
+  pub some : 1 ≤ n
+  pub room : n ≤ bucketSize (s .sizes)
