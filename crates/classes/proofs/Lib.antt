@@ -1,0 +1,2 @@
+pub mod Selections
+pub mod Choices

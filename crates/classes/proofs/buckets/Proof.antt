@@ -1,0 +1,29 @@
+use Rattle.classes.proofs.Choices.{within-as, below-within}
+use Rattle.classes.specs.Classes.{isKind}
+use Rattle.model.specs.Recover.{buckets}
+use Rattle.lists.specs.Lists.{keep}
+use Rattle.image.specs.Chip.{spareOnly}
+use mathlib.Core.Path.{_≡_, ap, _∙_}
+use borrow.Author.Needs.{needs}
+use Rattle.classes.proofs.buckets.Statement.{statement}
+use Rattle.classes.proofs.buckets.Tie as tie
+use Rattle.classes.proofs.buckets.Reads as reads
+use Rattle.classes.proofs.buckets.Lts as lts
+use Rattle.classes.proofs.every_bucket.Reads as every-bucket-reads
+use Rattle.classes.proofs.selected.Reads as selected-reads
+
+-- src/lib.rt:218:9
+every-bucket-requires : tie.Need-every-bucket-requires
+every-bucket-requires c κs = search needs
+
+-- src/lib.rt:219:5
+selected-requires : tie.Need-selected-requires
+selected-requires c κs = let all = within-as (c .before .before .args .z) (c .every-bucket .ensures) (below-within (c .before .before .args .z)) in (c .before .before .pre, (all, all))
+
+-- src/lib.rt:214:1
+returns : tie.Need-returns
+unfolding buckets
+returns c = let x = c .before .before .before .args in c .selected .ensures ∙ ap (keep (isKind (x .z) (spareOnly (x .spare .now)) (x .kind))) (c .before .every-bucket .ensures)
+
+pub buckets-spec : {M : Type 1} → statement M
+buckets-spec = tie.close (tie.spec every-bucket-requires selected-requires returns)

@@ -1,0 +1,71 @@
+use borrow.Author.Tests.{not-true, not-false}
+use Rattle.lists.specs.Lists.{allBelow}
+use Rattle.lists.proofs.Turns.{all-more}
+use Rattle.model.specs.Recover.{isChosen, givesWay}
+use Rattle.image.specs.Chip.{spareOnly}
+use borrow.Author.Needs.{needs}
+use native.Mathlib.Omega.{arith}
+use Prim.Native.Nat.{_-_, _≤_}
+use mathlib.Core.Path.{_≡_, refl, sym, _∙_}
+use Rattle.classes.proofs.is_chosen.Statement.{statement}
+use Rattle.classes.proofs.is_chosen.Tie as tie
+use Rattle.classes.proofs.is_chosen.Reads as reads
+use Rattle.classes.proofs.is_chosen.Lts as lts
+use Rattle.classes.proofs.gives_way.Reads as gives-way-reads
+use Rattle.image.proofs.complete.Reads as complete-reads
+
+abbrev Inv-loop : tie.InvT-loop
+Inv-loop z c spare newest₀ e₀ newest e = (e ≤ z .c) × (newest ≡ allBelow e (givesWay z (spareOnly spare) c))
+
+abbrev μ-loop : tie.MeasureT-loop
+μ-loop z c spare newest₀ e₀ newest e = z .c - e
+
+-- src/lib.rt:78:9
+complete-requires : tie.Need-complete-requires Inv-loop μ-loop
+complete-requires c κs = search needs
+
+-- src/lib.rt:79:9
+returns : tie.Need-returns Inv-loop μ-loop
+unfolding isChosen
+returns c = rw (sym (c .before .complete .ensures) ∙ not-true _ (c .if1 .taken))
+
+-- src/lib.rt:83:5
+loop-holds : tie.Need-loop-holds Inv-loop μ-loop
+unfolding allBelow
+loop-holds c = (omega arith, refl)
+
+-- src/lib.rt:84:27
+gives-way-requires : tie.Need-gives-way-requires Inv-loop μ-loop
+gives-way-requires c κs = search needs
+
+-- src/lib.rt:85:9
+add-e : tie.Need-add-e Inv-loop μ-loop
+add-e c = omega arith
+
+-- src/lib.rt:83:5
+loop-less : tie.Need-loop-less Inv-loop μ-loop
+loop-less c = omega arith
+
+-- src/lib.rt:83:5
+loop-again : tie.Need-loop-again Inv-loop μ-loop
+loop-again c = (omega arith, rw (c .before .before .before .loop .inv .1, c .gives-way .ensures, all-more))
+
+-- src/lib.rt:73:1
+returns-2 : tie.Need-returns-2 Inv-loop μ-loop
+unfolding isChosen
+returns-2 c = let e : c .before .before .loop .e ≡ c .before .before .before .before .before .before .args .z .c = omega arith in rw (sym (c .before .before .before .before .complete .ensures) ∙ not-false _ (c .before .before .before .if1 .left)) (rw e at (c .before .before .loop .inv .1))
+
+pub is-chosen-spec : {M : Type 1} → statement M
+is-chosen-spec =
+    tie.close
+    (tie.spec
+    Inv-loop
+    μ-loop
+    complete-requires
+    returns
+    loop-holds
+    gives-way-requires
+    add-e
+    loop-less
+    loop-again
+    returns-2)

@@ -1,0 +1,2 @@
+pub mod Rescues
+pub mod Reached

@@ -1,0 +1,57 @@
+use Rattle.model.specs.Recover.{rescueStores}
+use lib.ListN.{length}
+use mathlib.Core.Path.{_≡_, sym, ap, _∙_}
+use borrow.Author.Needs.{needs}
+use Rattle.rescue.proofs.rescue_one.Statement.{statement}
+use Rattle.rescue.proofs.rescue_one.Tie as tie
+use Rattle.rescue.proofs.rescue_one.Reads as reads
+use Rattle.rescue.proofs.rescue_one.Lts as lts
+use Rattle.rescued.proofs.rescued_into.Reads as rescued-into-reads
+use Rattle.units.proofs.write_units.Reads as write-units-reads
+
+-- src/lib.rt:76:30
+cast-rescued-into : tie.Need-cast-rescued-into
+cast-rescued-into c = search needs
+
+-- src/lib.rt:76:5
+rescued-into-requires : tie.Need-rescued-into-requires
+rescued-into-requires c κs = search needs
+
+-- src/lib.rt:77:5
+write-units-requires : tie.Need-write-units-requires
+write-units-requires c κs = search needs
+
+-- src/lib.rt:58:1
+same-length : tie.Need-same-length
+same-length c = search needs
+
+-- src/lib.rt:58:1
+same-length-2 : tie.Need-same-length-2
+same-length-2 c = search needs
+
+-- src/lib.rt:58:1
+same-length-3 : tie.Need-same-length-3
+same-length-3 c = search needs
+
+-- src/lib.rt:58:1
+same-length-4 : tie.Need-same-length-4
+same-length-4 c = search needs
+
+-- src/lib.rt:58:1
+returns : tie.Need-returns
+unfolding rescueStores
+returns c = let start = c .before .before .before .before .before .before .before .before .before .before .before .before .before .before .before .before .before .before .before .before .before .before in let e = c .before .before .before .before .before .before .before .before .before .before .before .before .before .rescued-into .ensures in
+    (rw (c .before .before .before .before .before .before .write-units .ensures .0, e), (c .before .before .before .before .before .before .write-units .ensures .1, ap length (sym e) ∙ c .before .before .before .before .before .before .before .before .before .before .before .before .bytes .given ∙ start .pre .1 .1 .1))
+
+pub rescue-one-spec : {M : Type 1} → statement M
+rescue-one-spec =
+    tie.close
+    (tie.spec
+    cast-rescued-into
+    rescued-into-requires
+    write-units-requires
+    same-length
+    same-length-2
+    same-length-3
+    same-length-4
+    returns)

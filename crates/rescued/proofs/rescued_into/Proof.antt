@@ -1,0 +1,104 @@
+use Rattle.rescued.proofs.Bytes.{chip-of, readable, head-within, copy-within, sorted-within, merge-all-as, same-chosen, same-flushed, same-logs, flushed-count, base-as, rescued-flushed, rescued-copy}
+use Rattle.classes.proofs.Choices.{within-as, buckets-within, copies-of}
+use Rattle.model.specs.Recover.{buckets, isWriteOf, isChosen, isDroppedWrite, flushed}
+use Rattle.image.specs.Chip.{spareOnly}
+use Rattle.geometry.specs.Geometry.{device}
+use lib.Dec.{eqb}
+use Prim.Native.Nat.{_≤_}
+use native.Mathlib.Omega.{arith}
+use mathlib.Core.Bool.{true, false, not}
+use mathlib.Core.Path.{_≡_, sym, _∙_}
+use borrow.Author.Needs.{needs}
+use Rattle.rescued.proofs.rescued_into.Statement.{statement}
+use Rattle.rescued.proofs.rescued_into.Tie as tie
+use Rattle.rescued.proofs.rescued_into.Reads as reads
+use Rattle.rescued.proofs.rescued_into.Lts as lts
+use Rattle.classes.proofs.count.Reads as count-reads
+use Rattle.classes.proofs.selected.Reads as selected-reads
+use Rattle.fifo.proofs.Fifo.head.Reads as head-reads
+use Rattle.fifo.proofs.Fifo.used.Reads as used-reads
+use Rattle.rescued.proofs.base_into.Reads as base-into-reads
+use Rattle.rescued.proofs.logs_of.Reads as logs-of-reads
+use Rattle.rescued.proofs.merge_all.Reads as merge-all-reads
+
+-- src/lib.rt:89:9
+selected-requires : tie.Need-selected-requires
+selected-requires c κs = let start = c .before .before .before .before in let x = start .args in let d = spareOnly (x .spare .now) in
+    let chosen = within-as (x .z) (start .pre .1 .0 .1 .chosen-are) (buckets-within (x .z) d (isChosen (x .z) d)) in
+    (chip-of (start .pre .0), (chosen, chosen))
+
+-- src/lib.rt:90:19
+count-requires : tie.Need-count-requires
+count-requires c κs = let start = c .before .before .before .before .before in let x = start .args in let d = spareOnly (x .spare .now) in
+    (chip-of (start .pre .0), within-as (x .z) (start .pre .1 .0 .0 .dropped-are) (buckets-within (x .z) d (isDroppedWrite (x .z) d)))
+
+-- src/lib.rt:91:30
+used-requires : tie.Need-used-requires
+used-requires c κs = search needs
+
+-- src/lib.rt:92:39
+head-requires : tie.Need-head-requires
+head-requires c κs = search needs
+
+-- src/lib.rt:92:39
+cast-base-into : tie.Need-cast-base-into
+cast-base-into c = search needs
+
+-- src/lib.rt:92:5
+base-into-requires : tie.Need-base-into-requires
+base-into-requires c κs = let start = c .before .before .before .before .before .before .before .before .before in let x = start .args in let d = spareOnly (x .spare .now) in
+    let sound = start .pre .0 in
+    let low : 1 ≤ x .z .c = omega (arith, sound .limits .c-low) in
+    let copy = copies-of (x .z) d (x .b) (start .pre .1 .0 .1 .chosen-are) (c .before .before .before .before .selected .ensures) in
+    (sound .limits, ((sound .lent .flash-length, sound .lent .disk-length, start .pre .1 .1 .1), (start .pre .1 .1 .0, rw (c .before .head .ensures) (head-within (x .z) _ low (within-as (x .z) copy (copy-within (x .z) d (x .b)))))))
+
+-- src/lib.rt:94:13
+logs-of-requires : tie.Need-logs-of-requires
+logs-of-requires c κs = search needs
+
+-- src/lib.rt:95:9
+merge-all-requires : tie.Need-merge-all-requires
+merge-all-requires c κs = let start = c .before .before .before .before .before .before .before .before .before .before .before .before .before .before .before in let x = start .args in let d = spareOnly (x .spare .now) in
+    (readable (start .pre .0), (within-as (x .z) (c .before .logs-of .ensures) (sorted-within (x .z) d (buckets (x .z) d (isWriteOf (x .z) d (x .b))) (buckets-within (x .z) d (isWriteOf (x .z) d (x .b)))), omega (arith, c .before .before .before .before .bytes .given, start .pre .1 .1 .1)))
+
+-- src/lib.rt:73:1
+same-length : tie.Need-same-length
+same-length c = search needs
+
+-- src/lib.rt:73:1
+returns : tie.Need-returns
+returns c = let start = c .before .before .before .before .before .before .before .before .before .before .before .before .before .before .before .before .before .before in let x = start .args in let o = spareOnly (x .spare .now) in
+    let d = device (x .flash .now) (x .spare .now) (x .disk .now) in
+    let f : not (eqb (c .before .before .before .before .before .before .before .before .before .before .before .before .count .result) 0) ≡ flushed (x .z) d (x .b) = rw (c .before .before .before .before .before .before .before .before .before .before .before .before .count .ensures, start .pre .1 .0 .0 .dropped-are) (flushed-count (x .z) o (x .b) ∙ same-flushed (x .z) d (x .b)) in
+    let copy = copies-of (x .z) o (x .b) (start .pre .1 .0 .1 .chosen-are) (c .before .before .before .before .before .before .before .before .before .before .before .before .before .selected .ensures) ∙ same-chosen (x .z) d (x .b) in
+    let base = c .before .before .before .before .before .before .before .before .base-into .ensures ∙ base-as (x .z) d (x .b) copy (c .before .before .before .before .before .before .before .before .before .before .before .used .ensures .0) (c .before .before .before .before .before .before .before .before .before .before .head .ensures) (c .before .before .before .before .before .if1 .taken) in
+    c .before .before .merge-all .ensures ∙ merge-all-as (x .z) d (c .before .before .before .before .logs-of .ensures ∙ same-logs (x .z) d (x .b)) base ∙ rescued-flushed (x .z) d (x .b) (sym f ∙ c .before .before .before .before .before .if1 .taken)
+
+-- src/lib.rt:73:1
+same-length-2 : tie.Need-same-length-2
+same-length-2 c = search needs
+
+-- src/lib.rt:73:1
+returns-2 : tie.Need-returns-2
+returns-2 c = let start = c .before .before .before .before .before .before .before .before .before .before .before .before .before in let x = start .args in let o = spareOnly (x .spare .now) in
+    let d = device (x .flash .now) (x .spare .now) (x .disk .now) in
+    let f : not (eqb (c .before .before .before .before .before .before .before .count .result) 0) ≡ flushed (x .z) d (x .b) = rw (c .before .before .before .before .before .before .before .count .ensures, start .pre .1 .0 .0 .dropped-are) (flushed-count (x .z) o (x .b) ∙ same-flushed (x .z) d (x .b)) in
+    let copy = copies-of (x .z) o (x .b) (start .pre .1 .0 .1 .chosen-are) (c .before .before .before .before .before .before .before .before .selected .ensures) ∙ same-chosen (x .z) d (x .b) in
+    c .before .before .before .base-into .ensures ∙ base-as (x .z) d (x .b) copy (c .before .before .before .before .before .before .used .ensures .0) (c .before .before .before .before .before .head .ensures) (c .if1 .left) ∙ rescued-copy (x .z) d (x .b) (sym f ∙ c .if1 .left)
+
+pub rescued-into-spec : {M : Type 1} → statement M
+rescued-into-spec =
+    tie.close
+    (tie.spec
+    selected-requires
+    count-requires
+    used-requires
+    head-requires
+    cast-base-into
+    base-into-requires
+    logs-of-requires
+    merge-all-requires
+    same-length
+    returns
+    same-length-2
+    returns-2)
