@@ -1,0 +1,82 @@
+// Bytes written as hexadecimal digits, two to a byte, and read from them.
+ghost use mathlib.Core.Path.{_≡_};
+ghost use mathlib.Core.Bool.{true};
+ghost use Prim.Native.Nat.{_+_, _*_, _≤_};
+ghost use lib.ListN.{length, getD, drop};
+ghost use Rattle.lists.specs.Lists.{all, part};
+ghost use Rattle.model.specs.Spare.{two};
+ghost use Rattle.model.specs.Driving.{digitValue, bytesOf};
+ghost use Rattle.digits.specs.Digits.{isDigit};
+
+// The value of a digit, in either letter case; 16 for any other character.
+fn digit_value(c: u8) -> u8
+    ensures { λ r. ⌜ r ≡ digitValue c ⌝ }
+{
+    match c {
+        48..=57 => c - 48,
+        65..=70 => c - 55,
+        97..=102 => c - 87,
+        _ => 16,
+    }
+}
+
+pub fn all_digits(line: &[u8]) -> bool
+    ensures { λ r. ⌜ r ≡ all isDigit (now (line .entry)) ⌝ }
+{
+    let mut i = 0;
+    while i < line.len() {
+        let v = digit_value(line[i]);
+        if 16 <= v {
+            return false;
+        }
+        i += 1;
+    }
+    true
+}
+
+// Above 255 where a character is no digit.
+fn byte_of(high: u8, low: u8) -> u16
+    ensures { λ r. ⌜ r ≡ digitValue high * 16 + digitValue low ⌝ }
+{
+    let h = digit_value(high);
+    let l = digit_value(low);
+    (h as u16) * 16 + (l as u16)
+}
+
+// Byte `at` of the bytes that the line's digits say; 0 behind the last.
+pub fn byte_at(line: &[u8], at: usize) -> u16
+    ensures { λ r. ⌜ r ≡ getD (bytesOf (now (line .entry))) at 0 ⌝ }
+{
+    if at < line.len() / 2 {
+        byte_of(line[at * 2], line[at * 2 + 1])
+    } else {
+        0
+    }
+}
+
+// The two-byte number from byte `at` on.
+pub fn number_at(line: &[u8], at: usize) -> usize
+    ensures { λ r. ⌜ r ≡ two (bytesOf (now (line .entry))) at ⌝ }
+{
+    if at < line.len() / 2 {
+        let high = byte_at(line, at);
+        let low = byte_at(line, at + 1);
+        (high as usize) * 256 + (low as usize)
+    } else {
+        0
+    }
+}
+
+// The bytes from byte `from` on, as many as `out` has room for.
+pub fn decode(line: &[u8], from: usize, out: &mut [u8])
+    requires { ⌜ all isDigit (now line) ≡ true ⌝ }
+    requires { ⌜ length (now out) ≤ length (drop from (bytesOf (now line))) ⌝ }
+    ensures { λ _. ⌜ now (out .exit) ≡ part (bytesOf (now (line .entry))) from (length (now (out .entry))) ⌝ }
+{
+    let mut i = 0;
+    while i < out.len() {
+        let b = byte_at(line, from + i);
+        out[i] = b as u8;
+        i += 1;
+    }
+}

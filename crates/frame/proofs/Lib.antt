@@ -1,0 +1,4 @@
+pub mod Head
+pub mod Fits
+pub mod Asked
+pub mod Meaning

@@ -1,0 +1,26 @@
+-- `frame::write_data` meets its contract.
+use mathlib.Core.Path.{_∙_}
+use native.Mathlib.Omega.{arith}
+use borrow.Author.Needs.{needs}
+use lib.ListN.{length, drop}
+use lib.Seq.{take-all}
+use Rattle.lists.specs.Lists.{part}
+use Rattle.model.specs.Driving.{bytesOf}
+use Rattle.frame.proofs.Fits.{fits-digits}
+use Rattle.frame.proofs.write_data.Statement.{statement}
+use Rattle.frame.proofs.write_data.Tie as tie
+
+decode-requires : tie.Need-decode-requires
+decode-requires c κs = (fits-digits (c .before .before .before .args .line .now) (c .before .before .before .pre .0), omega arith)
+
+same-length : tie.Need-same-length
+same-length c = search needs
+
+returns : tie.Need-returns
+unfolding part
+returns c =
+    c .before .before .decode .ensures
+    ∙ take-all (length (c .before .before .before .before .before .before .args .out .now)) (drop 7 (bytesOf (c .before .before .before .before .before .before .args .line .now))) (omega (arith, c .before .before .before .before .before .before .pre .1))
+
+pub write-data-spec : {M : Type 1} → statement M
+write-data-spec = tie.close (tie.spec decode-requires same-length returns)
