@@ -43,24 +43,16 @@ module _ (z : Sizes) (d : Device) where
   total : length (queued (recover z d .state)) ≡ z .c
   total = length-once (z .c) (queued (recover z d .state)) (λ c. places-queued (recover z d .state) c ∙ once-recovered z d c)
 
-  gc-fits : length (byEpoch z d (buckets z d (isOldCopy z d)))
-      + (length (byEpoch z d (buckets z d (isDroppedCopy z d))) + length (byEpoch z d (buckets z d (isDroppedWrite z d)))) ≤ z .c
-  unfolding queued recover
-  gc-fits = let t = total in omega (arith, simp length-append at t)
-
   -- the GC queue, group by group
   module _ {old copies writes : List ℕ} (o : old ≡ byEpoch z d (buckets z d (isOldCopy z d))) (c : copies ≡ byEpoch z d (buckets z d (isDroppedCopy z d)))
       (w : writes ≡ byEpoch z d (buckets z d (isDroppedWrite z d))) where
-    pub last-fit : z .c ≤ 256 → length copies + length writes ≤ 256
-    last-fit h = rw (c, w) (omega (arith, gc-fits))
+    pub gc-fits : length old + (length copies + length writes) ≤ z .c
+    unfolding queued recover
+    gc-fits = let t = total in rw (o, c, w) (omega (arith, simp length-append at t))
 
-    module _ {rest : List ℕ} (r : rest ≡ copies ++ writes) where
-      pub all-fit : z .c ≤ 256 → length old + length rest ≤ 256
-      all-fit h = rw (r, length-append copies writes, o, c, w) (omega (arith, gc-fits))
-
-      pub gc-is : {gc : List ℕ} → gc ≡ old ++ rest → gc ≡ recover z d .state .gc
-      unfolding recover
-      gc-is e = e ∙ rw (r, o, c, w)
+    pub gc-is : {rest gc : List ℕ} → rest ≡ copies ++ writes → gc ≡ old ++ rest → gc ≡ recover z d .state .gc
+    unfolding recover
+    gc-is r e = e ∙ rw (r, o, c, w)
 
   few-reads : Limits z → wellFormed z d ≡ true → length (byEpoch z d (keptCopies z d)) ≤ 64
   unfolding recover

@@ -4,6 +4,7 @@ use Rattle.model.specs.Recover.{recover}
 use Rattle.model.specs.Calls.{recoverCall, sizesOf, doneAnswer, lentBuffer, readBuffer}
 use Rattle.geometry.specs.Geometry.{device}
 use mathlib.Core.Path.{refl, _∙_}
+use native.Mathlib.Omega.{arith}
 use borrow.Author.Needs.{needs}
 use Rattle.recover.proofs.recover_chip.Statement.{statement}
 use Rattle.recover.proofs.recover_chip.Tie as tie
@@ -25,7 +26,7 @@ unfolding sizesOf
 finish-requires c κs =
     let a = c .before .before .before .before .before .before .before .before .before .before .before .before .before .before .before .before .before .before .before .args in
     let d = device (a .flash .now) (a .spare .now) (a .disk .now) in
-    left-within (a .allowance) (recoverCall (a .z)) (a .s) d (recover (a .z) d) (c .before .before .before .before .before .before .rescue .ensures .0)
+    omega (arith, left-within (a .allowance) (recoverCall (a .z)) (a .s) d (recover (a .z) d) (c .before .before .before .before .before .before .rescue .ensures .0))
 
 same-length : tie.Need-same-length
 same-length c = search needs

@@ -1,7 +1,9 @@
-use Rattle.recover.proofs.Queues.{sorted-as, last-fit, all-fit, gc-is}
+use Rattle.recover.proofs.Queues.{sorted-as, gc-fits, gc-is}
 use Rattle.classes.proofs.Choices.{within-as, buckets-within}
 use Rattle.model.specs.Recover.{isDroppedWrite, isDroppedCopy, isOldCopy}
 use Rattle.image.specs.Chip.{spareOnly}
+use lib.ListN.{length-append}
+use native.Mathlib.Omega.{arith}
 use Rattle.recover.proofs.retired.Statement.{statement}
 use Rattle.recover.proofs.retired.Tie as tie
 
@@ -31,14 +33,16 @@ append-requires c κs =
     let start = c .before .before .before .before in
     let z = start .args .z in
     let d = spareOnly (start .args .spare .now) in
-    last-fit z d (sorted-as z d (start .pre .1 .2) (c .before .before .by-epoch .ensures)) (sorted-as z d (start .pre .1 .1) (c .before .by-epoch2 .ensures)) (sorted-as z d (start .pre .1 .0) (c .by-epoch3 .ensures)) (start .pre .0 .limits .c-high)
+    let fits = gc-fits z d (sorted-as z d (start .pre .1 .2) (c .before .before .by-epoch .ensures)) (sorted-as z d (start .pre .1 .1) (c .before .by-epoch2 .ensures)) (sorted-as z d (start .pre .1 .0) (c .by-epoch3 .ensures)) in
+    omega (arith, fits, start .pre .0 .limits .c-high)
 
 append-requires-2 : tie.Need-append-requires-2
 append-requires-2 c κs =
     let start = c .before .before .before .before .before in
     let z = start .args .z in
     let d = spareOnly (start .args .spare .now) in
-    all-fit z d (sorted-as z d (start .pre .1 .2) (c .before .before .before .by-epoch .ensures)) (sorted-as z d (start .pre .1 .1) (c .before .before .by-epoch2 .ensures)) (sorted-as z d (start .pre .1 .0) (c .before .by-epoch3 .ensures)) (c .append .ensures) (start .pre .0 .limits .c-high)
+    let fits = gc-fits z d (sorted-as z d (start .pre .1 .2) (c .before .before .before .by-epoch .ensures)) (sorted-as z d (start .pre .1 .1) (c .before .before .by-epoch2 .ensures)) (sorted-as z d (start .pre .1 .0) (c .before .by-epoch3 .ensures)) in
+    rw (c .append .ensures, length-append) (omega (arith, fits, start .pre .0 .limits .c-high))
 
 returns : tie.Need-returns
 returns c =
