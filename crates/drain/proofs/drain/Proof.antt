@@ -1,0 +1,68 @@
+use borrow.Author.Needs.{needs}
+use mathlib.Core.Path.{sym, _∙_}
+use Rattle.state.specs.View.{viewOf}
+use Rattle.geometry.specs.Geometry.{device}
+use Rattle.outcome.proofs.Ends.{handed-taken, handed-refused}
+use Rattle.checks.proofs.Opens.{running-opens}
+use Rattle.model.specs.Calls.{drainCall, tests, refusal, planOf, lentBuffer}
+use Rattle.drain.proofs.Opened.{drains}
+use Rattle.drain.proofs.drain.Statement.{statement}
+use Rattle.drain.proofs.drain.Tie as tie
+
+running-refusal-requires : tie.Need-running-refusal-requires
+running-refusal-requires c κs = search needs
+
+drain-queues-requires : tie.Need-drain-queues-requires
+drain-queues-requires c κs = let a = c .before .before .before .before .before .before .before .before .before .before .before .args in
+    let opened = running-opens (viewOf (a .s)) (device (a .flash .now) (a .spare .now) (a .disk .now)) (sym (c .before .before .before .before .running-refusal .ensures) ∙ c .before .before .before .if1 .taken) in
+    (opened .image .lent, drains opened)
+
+refused-requires : tie.Need-refused-requires
+refused-requires c κs = search needs
+
+same-length : tie.Need-same-length
+same-length c = search needs
+
+same-length-2 : tie.Need-same-length-2
+same-length-2 c = search needs
+
+same-length-3 : tie.Need-same-length-3
+same-length-3 c = search needs
+
+returns : tie.Need-returns
+unfolding tests refusal planOf
+returns c = let a = c .before .before .before .before .before .before .before .before .before .before .before .before .before .before .before .before .before .before .args in
+    let d = device (a .flash .now) (a .spare .now) (a .disk .now) in
+    c .before .before .before .before .before .before .drain-queues .ensures ∙ handed-taken (a .allowance) drainCall (a .s) d (sym (c .before .before .before .before .before .before .before .before .before .before .before .running-refusal .ensures) ∙ c .before .before .before .before .before .before .before .before .before .before .if1 .taken)
+
+same-length-4 : tie.Need-same-length-4
+same-length-4 c = search needs
+
+same-length-5 : tie.Need-same-length-5
+same-length-5 c = search needs
+
+same-length-6 : tie.Need-same-length-6
+same-length-6 c = search needs
+
+returns-2 : tie.Need-returns-2
+unfolding tests refusal lentBuffer
+returns-2 c = let a = c .before .before .before .before .before .before .before .before .before .args in
+    let d = device (a .flash .now) (a .spare .now) (a .disk .now) in
+    let tested = c .before .before .running-refusal in
+    rw (c .refused .ensures) (handed-refused (a .allowance) drainCall (a .s) d (tested .result) (sym (tested .ensures)) (c .before .if1 .left))
+
+pub drain-spec : {M : Type 1} → statement M
+drain-spec =
+    tie.close
+    (tie.spec
+    running-refusal-requires
+    drain-queues-requires
+    refused-requires
+    same-length
+    same-length-2
+    same-length-3
+    returns
+    same-length-4
+    same-length-5
+    same-length-6
+    returns-2)

@@ -1,0 +1,187 @@
+// Drain: all that the disk lacks is written to it.
+use meter::Meter;
+use model::Answer;
+use outcome::Outcome;
+use state::State;
+ghost use mathlib.Core.Path.{_≡_};
+ghost use mathlib.Core.List.{[]};
+ghost use Prim.Native.Nat.{_≤_};
+ghost use lib.ListN.{length};
+ghost use Rattle.model.specs.Sizes.{bucketSize};
+ghost use Rattle.model.specs.Operations.{drainStores, drain};
+ghost use Rattle.model.specs.Calls.{drainCall, carryOut, call};
+ghost use Rattle.geometry.specs.Geometry.{device, Lent};
+ghost use Rattle.meter.specs.Run.{running, runAll};
+ghost use Rattle.state.specs.View.{viewOf};
+ghost use Rattle.gather.specs.Sources.{Sources};
+ghost use Rattle.outcome.specs.Handed.{handedBack, handed};
+ghost use Rattle.drain.specs.Listed.{Drains, Listed};
+
+// The units of b, gathered in a lent buffer.
+fn write_back(
+    meter: Meter,
+    s: State,
+    b: u16,
+    buffer: &mut [u8],
+    flash: &mut [u8],
+    spare: &mut [u8],
+    disk: &mut [u8],
+) -> Meter
+    requires { ⌜ Sources (viewOf s) b (now flash) (now spare) (now disk) ⌝ }
+    requires { ⌜ length (now buffer) ≡ bucketSize (s .sizes) ⌝ }
+    ensures { λ r. ⌜ running (now (flash .exit)) (now (spare .exit)) (now (disk .exit)) r ≡ runAll (s .sizes) (drainStores (s .sizes) (device (now (flash .entry)) (now (spare .entry)) (now (disk .entry))) (viewOf s) b) (running (now (flash .entry)) (now (spare .entry)) (now (disk .entry)) meter) ⌝ }
+    ensures { λ _. ⌜ Lent (s .sizes) (now (flash .exit)) (now (spare .exit)) (now (disk .exit)) ⌝ }
+{
+    gather::merged_into(s, b, flash, spare, disk, buffer);
+    units::write_units(meter, s.sizes, b as usize, buffer, flash, spare, disk)
+}
+
+// The units of each listed back-end bucket, in rising order.
+fn write_listed(
+    meter: Meter,
+    s: State,
+    backs: [u16; 256],
+    count: usize,
+    buffer: &mut [u8],
+    flash: &mut [u8],
+    spare: &mut [u8],
+    disk: &mut [u8],
+) -> Meter
+    requires { ⌜ Lent (s .sizes) (now flash) (now spare) (now disk) ⌝ }
+    requires { ⌜ Listed (viewOf s) (now spare) backs count ⌝ }
+    requires { ⌜ length (now buffer) ≡ bucketSize (s .sizes) ⌝ }
+    ensures { λ r. ⌜ running (now (flash .exit)) (now (spare .exit)) (now (disk .exit)) r ≡ runAll (s .sizes) (drain (s .sizes) (device (now (flash .entry)) (now (spare .entry)) (now (disk .entry))) (viewOf s) .stores) (running (now (flash .entry)) (now (spare .entry)) (now (disk .entry)) meter) ⌝ }
+    ensures { λ _. ⌜ Lent (s .sizes) (now (flash .exit)) (now (spare .exit)) (now (disk .exit)) ⌝ }
+{
+    let end = s.sizes.b;
+    let mut left = meter;
+    let mut b = order::next_of(backs, count, 0, end);
+    while b < end {
+        left = write_back(left, s, b as u16, buffer, flash, spare, disk);
+        b = order::next_of(backs, count, b + 1, end);
+    }
+    left
+}
+
+fn write_small(
+    meter: Meter,
+    s: State,
+    backs: [u16; 256],
+    count: usize,
+    flash: &mut [u8],
+    spare: &mut [u8],
+    disk: &mut [u8],
+) -> Meter
+    requires { ⌜ Lent (s .sizes) (now flash) (now spare) (now disk) ⌝ }
+    requires { ⌜ Listed (viewOf s) (now spare) backs count ⌝ }
+    requires { ⌜ bucketSize (s .sizes) ≤ 2048 ⌝ }
+    ensures { λ r. ⌜ running (now (flash .exit)) (now (spare .exit)) (now (disk .exit)) r ≡ runAll (s .sizes) (drain (s .sizes) (device (now (flash .entry)) (now (spare .entry)) (now (disk .entry))) (viewOf s) .stores) (running (now (flash .entry)) (now (spare .entry)) (now (disk .entry)) meter) ⌝ }
+    ensures { λ _. ⌜ Lent (s .sizes) (now (flash .exit)) (now (spare .exit)) (now (disk .exit)) ⌝ }
+{
+    let mut buffer = [0u8; 2048];
+    let z = s.sizes;
+    let size = z.p * z.s;
+    write_listed(
+        meter,
+        s,
+        backs,
+        count,
+        &mut buffer[..size],
+        flash,
+        spare,
+        disk,
+    )
+}
+
+fn write_large(
+    meter: Meter,
+    s: State,
+    backs: [u16; 256],
+    count: usize,
+    flash: &mut [u8],
+    spare: &mut [u8],
+    disk: &mut [u8],
+) -> Meter
+    requires { ⌜ Lent (s .sizes) (now flash) (now spare) (now disk) ⌝ }
+    requires { ⌜ Listed (viewOf s) (now spare) backs count ⌝ }
+    ensures { λ r. ⌜ running (now (flash .exit)) (now (spare .exit)) (now (disk .exit)) r ≡ runAll (s .sizes) (drain (s .sizes) (device (now (flash .entry)) (now (spare .entry)) (now (disk .entry))) (viewOf s) .stores) (running (now (flash .entry)) (now (spare .entry)) (now (disk .entry)) meter) ⌝ }
+    ensures { λ _. ⌜ Lent (s .sizes) (now (flash .exit)) (now (spare .exit)) (now (disk .exit)) ⌝ }
+{
+    let mut buffer = [0u8; 65536];
+    let z = s.sizes;
+    let size = z.p * z.s;
+    write_listed(
+        meter,
+        s,
+        backs,
+        count,
+        &mut buffer[..size],
+        flash,
+        spare,
+        disk,
+    )
+}
+
+// A bucket of at most 2,048 bytes is gathered in an array of that size: there is less to clear.
+fn write_units(
+    meter: Meter,
+    s: State,
+    backs: [u16; 256],
+    count: usize,
+    flash: &mut [u8],
+    spare: &mut [u8],
+    disk: &mut [u8],
+) -> Meter
+    requires { ⌜ Lent (s .sizes) (now flash) (now spare) (now disk) ⌝ }
+    requires { ⌜ Listed (viewOf s) (now spare) backs count ⌝ }
+    ensures { λ r. ⌜ running (now (flash .exit)) (now (spare .exit)) (now (disk .exit)) r ≡ runAll (s .sizes) (drain (s .sizes) (device (now (flash .entry)) (now (spare .entry)) (now (disk .entry))) (viewOf s) .stores) (running (now (flash .entry)) (now (spare .entry)) (now (disk .entry)) meter) ⌝ }
+    ensures { λ _. ⌜ Lent (s .sizes) (now (flash .exit)) (now (spare .exit)) (now (disk .exit)) ⌝ }
+{
+    let z = s.sizes;
+    let size = z.p * z.s;
+    if size <= 2048 {
+        write_small(meter, s, backs, count, flash, spare, disk)
+    } else {
+        write_large(meter, s, backs, count, flash, spare, disk)
+    }
+}
+
+// What to write is worked out before the first store.
+fn drain_queues(
+    s: State,
+    allowance: usize,
+    flash: &mut [u8],
+    spare: &mut [u8],
+    disk: &mut [u8],
+) -> Outcome
+    requires { ⌜ Lent (s .sizes) (now flash) (now spare) (now disk) ⌝ }
+    requires { ⌜ Drains (viewOf s) (now spare) ⌝ }
+    ensures { λ r. ⌜ handedBack (device (now (flash .exit)) (now (spare .exit)) (now (disk .exit))) [] r ≡ handed s (carryOut allowance drainCall (viewOf s) (device (now (flash .entry)) (now (spare .entry)) (now (disk .entry))) (drain (s .sizes) (device (now (flash .entry)) (now (spare .entry)) (now (disk .entry))) (viewOf s))) ⌝ }
+{
+    let work = unclean::drained(s, spare);
+    let whole = Meter {
+        left: allowance,
+        cut: false,
+    };
+    let backs = work.backs;
+    let left = write_units(whole, s, backs, work.count, flash, spare, disk);
+    outcome::finish(left, allowance, Answer::Done, s, work.state)
+}
+
+// The entry.
+pub fn drain(
+    s: State,
+    allowance: usize,
+    flash: &mut [u8],
+    spare: &mut [u8],
+    disk: &mut [u8],
+) -> Outcome
+    ensures { λ r. ⌜ handedBack (device (now (flash .exit)) (now (spare .exit)) (now (disk .exit))) [] r ≡ handed s (call allowance drainCall (viewOf s) (device (now (flash .entry)) (now (spare .entry)) (now (disk .entry)))) ⌝ }
+{
+    let number = checks::running_refusal(s, flash, spare, disk);
+    if number == 0 {
+        drain_queues(s, allowance, flash, spare, disk)
+    } else {
+        outcome::refused(number, s)
+    }
+}
