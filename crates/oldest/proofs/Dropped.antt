@@ -33,9 +33,12 @@ use Rattle.oldest.specs.Drops.{Drops}
 pub record Dropped (s t : State) : Type 0 where
   pub ready : Ready t
   pub sizes : t .sizes ≡ s .sizes
-  pub writes : t .writes ≡ s .writes
   pub next : t .next ≡ s .next
   pub fewer : length (t .reads) < s .sizes .r
+
+-- Allocate finds a bucket beside a read and a write queue that are not too long
+pub drops-ready : {s : State} → Drops s → Ready s
+drops-ready o = record { orderly = o .orderly; some = omega (arith, o .total, o .reads, o .writes, o .orderly .limits .room) }
 
 rest-inside : (c : ℕ) (l : List Entry) → all (isBelow c) (caches l) ≡ true → all (isBelow c) (caches (drop 1 l)) ≡ true
 unfolding all caches cacheBucket
@@ -76,19 +79,12 @@ module _ (s : State) (o : Drops s) where
             some = simp length-append (omega arith);
           };
           sizes = refl;
-          writes = refl;
           next = refl;
           fewer = simp length-drop (omega (arith, some-read, o .reads));
         }
 
   room-dropped : length (s .reads) < s .sizes .r → Dropped s s
-  room-dropped h = record {
-    ready = record { orderly = o .orderly; some = omega (arith, o .total, o .reads, o .writes, o .orderly .limits .room) };
-    sizes = refl;
-    writes = refl;
-    next = refl;
-    fewer = h;
-  }
+  room-dropped h = record { ready = drops-ready o; sizes = refl; next = refl; fewer = h }
 
   pub dropped : (d : Device) → Dropped s (dropOldest (s .sizes) d s .state)
   dropped d =

@@ -1,0 +1,66 @@
+use native.Mathlib.Omega.{arith}
+use Rattle.model.specs.Steps.{merged}
+use Rattle.geometry.specs.Geometry.{device}
+use Rattle.state.specs.View.{viewOf}
+use Rattle.read.specs.Reads.{copyOf}
+use Rattle.read.proofs.Copies.{sources}
+use Rattle.read.proofs.Plans.{read-left, handed-read}
+use borrow.Author.Needs.{needs}
+use Rattle.read.proofs.copy_by.Statement.{statement}
+use Rattle.read.proofs.copy_by.Tie as tie
+
+merged-into-requires : tie.Need-merged-into-requires
+merged-into-requires c κs = let p = c .before .before .before .before .before .before .before .before .before .pre in
+    (sources (p .1 .0) (p .0), p .1 .1 .1)
+
+make-copy-requires : tie.Need-make-copy-requires
+make-copy-requires c κs = let p = c .before .before .before .before .before .before .before .before .before .before .before .before .before .before .before .before .pre in
+    (p .0, (p .1 .0 .drops, p .1 .1 .0, omega (arith, c .before .before .before .before .before .bytes .given, p .1 .1 .1)))
+
+show-requires : tie.Need-show-requires
+show-requires c κs = let p = c .before .before .before .before .before .before .before .before .before .before .before .before .before .before .before .before .before .before .before .before .before .before .before .before .before .before .before .pre in
+    omega (arith, p .1 .0 .range, c .before .before .before .before .before .before .before .before .before .before .before .before .before .before .before .before .bytes .given, p .1 .1 .1)
+
+finish-requires : tie.Need-finish-requires
+finish-requires c κs = let a = c .before .before .before .before .before .before .before .before .before .before .before .before .before .before .before .before .before .before .before .before .before .before .before .before .before .before .before .before .before .before .args in
+    let d = device (a .flash .now) (a .spare .now) (a .disk .now) in
+    read-left (a .allowance) (a .s) d _ (c .before .before .before .before .before .before .before .before .before .before .before .before .before .make-copy .ensures .0)
+
+same-length : tie.Need-same-length
+same-length c = search needs
+
+same-length-2 : tie.Need-same-length-2
+same-length-2 c = omega (arith, c .before .before .before .before .before .before .before .before .before .before .before .before .before .before .before .before .before .before .before .before .bytes .given)
+
+same-length-3 : tie.Need-same-length-3
+same-length-3 c = search needs
+
+same-length-4 : tie.Need-same-length-4
+same-length-4 c = search needs
+
+same-length-5 : tie.Need-same-length-5
+same-length-5 c = search needs
+
+returns : tie.Need-returns
+returns c = let a = c .before .before .before .before .before .before .before .before .before .before .before .before .before .before .before .before .before .before .before .before .before .before .before .before .before .before .before .before .before .before .before .args in
+    let z = a .s .sizes in
+    let v = viewOf (a .s) in
+    let d = device (a .flash .now) (a .spare .now) (a .disk .now) in
+    let bytes = c .before .before .before .before .before .before .before .before .before .before .before .before .before .before .before .before .before .before .before .before .before .merged-into .ensures in
+    rw (c .finish .ensures)
+    (handed-read (a .allowance) (a .s) d (copyOf z d (a .b) (merged z v d (a .b)) v) (rw bytes at (c .before .before .before .before .before .before .before .before .before .before .before .before .before .before .make-copy .ensures .0)) (a .b) (a .offset) (a .buffer .now) (rw bytes at (c .before .before .before .show .ensures)))
+
+pub copy-by-spec : {M : Type 1} → statement M
+copy-by-spec =
+    tie.close
+    (tie.spec
+    merged-into-requires
+    make-copy-requires
+    show-requires
+    finish-requires
+    same-length
+    same-length-2
+    same-length-3
+    same-length-4
+    same-length-5
+    returns)

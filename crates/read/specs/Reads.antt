@@ -1,0 +1,28 @@
+-- When a read can be made, and the copy that it makes.
+use Prim.Native.Nat.{ℕ, _+_, _≤_, _<_}
+use mathlib.Core.Path.{_≡_}
+use mathlib.Core.Bool.{true}
+use mathlib.Core.List.{List}
+use Rattle.lists.specs.Lists.{if_then_else_}
+use Rattle.model.specs.declared.Sizes.{Sizes}
+use Rattle.model.specs.Sizes.{Device, bucketSize}
+use Rattle.model.specs.Spare.{readKind, dirtyKind}
+use Rattle.model.specs.Image.{wellFormed}
+use Rattle.model.specs.State.{State, holds}
+use Rattle.model.specs.Steps.{Plan, _then_, copy}
+use Rattle.model.specs.Operations.{dropOldest}
+use Rattle.image.specs.Chip.{spareOnly}
+use Rattle.oldest.specs.Drops.{Drops}
+
+-- n bytes of the back-end bucket b, from an offset on, on a chip made by the page rules
+pub record Reads (s : State) (b off n : ℕ) (spare : List ℕ) : Type 0 where
+  pub drops : Drops s
+  pub well-formed : wellFormed (s .sizes) (spareOnly spare) ≡ true
+  pub back : b < s .sizes .b
+  pub range : off + n ≤ bucketSize (s .sizes)
+
+-- both hit, or a read miss
+unfoldable pub copyOf : Sizes → Device → ℕ → List ℕ → State → Plan
+copyOf z d b bytes s =
+    if holds b (s .reads) then copy z dirtyKind b bytes s
+    else (dropOldest z d s then copy z (if holds b (s .writes) then dirtyKind else readKind) b bytes)

@@ -1,0 +1,265 @@
+// Read.
+use meter::Meter;
+use model::Answer;
+use outcome::Outcome;
+use state::State;
+use steps::Turn;
+ghost use mathlib.Core.Path.{_≡_};
+ghost use mathlib.Core.Bool.{not, _&&_};
+ghost use Prim.Native.Nat.{_+_, _≤_};
+ghost use lib.ListN.{length};
+ghost use Rattle.lists.specs.Lists.{if_then_else_, part};
+ghost use Rattle.model.specs.Sizes.{bucketSize};
+ghost use Rattle.model.specs.Spare.{readKind, dirtyKind};
+ghost use Rattle.model.specs.State.{holds};
+ghost use Rattle.model.specs.Steps.{nothing, merged};
+ghost use Rattle.model.specs.Operations.{read};
+ghost use Rattle.model.specs.Calls.{readCall, carryOut, call};
+ghost use Rattle.geometry.specs.Geometry.{device, Lent};
+ghost use Rattle.meter.specs.Run.{running};
+ghost use Rattle.queue.specs.View.{entriesOf};
+ghost use Rattle.state.specs.View.{viewOf};
+ghost use Rattle.gather.specs.Sources.{Sources};
+ghost use Rattle.steps.specs.Turns.{reached, after};
+ghost use Rattle.outcome.specs.Handed.{handedBack, handed};
+ghost use Rattle.oldest.specs.Drops.{Drops};
+ghost use Rattle.read.specs.Reads.{Reads, copyOf};
+
+// Nothing is stored: the bytes asked for are gathered in the buffer itself.
+fn answer(
+    s: State,
+    new: State,
+    b: u16,
+    offset: usize,
+    buffer: &mut [u8],
+    allowance: usize,
+    flash: &[u8],
+    spare: &[u8],
+    disk: &[u8],
+) -> Outcome
+    requires { ⌜ Sources (viewOf s) b (now flash) (now spare) (now disk) ⌝ }
+    requires { ⌜ offset + length (now buffer) ≤ bucketSize (s .sizes) ⌝ }
+    ensures { λ r. ⌜ handedBack (device (now (flash .entry)) (now (spare .entry)) (now (disk .entry))) (now (buffer .exit)) r ≡ handed s (carryOut allowance (readCall b offset (now (buffer .entry))) (viewOf s) (device (now (flash .entry)) (now (spare .entry)) (now (disk .entry))) (nothing (viewOf new))) ⌝ }
+{
+    gather::merged_range(s, b, offset, flash, spare, disk, buffer);
+    let whole = Meter {
+        left: allowance,
+        cut: false,
+    };
+    outcome::finish(whole, allowance, Answer::Done, s, new)
+}
+
+// Read on a write miss, else Dirty.
+fn copy_kind(s: State, b: u16) -> u8
+    ensures { λ r. ⌜ r ≡ (if holds b (entriesOf (s .writes)) then dirtyKind else readKind) ⌝ }
+{
+    if s.writes.holds(b) { 3 } else { 1 }
+}
+
+// The bytes of b are programmed as its read bucket.
+fn make_copy(
+    meter: Meter,
+    s: State,
+    b: u16,
+    bytes: &[u8],
+    flash: &mut [u8],
+    spare: &mut [u8],
+    disk: &mut [u8],
+) -> Turn
+    requires { ⌜ Lent (s .sizes) (now flash) (now spare) (now disk) ⌝ }
+    requires { ⌜ Drops (viewOf s) × (s .next ≤ 4294967294) × (length (now bytes) ≡ bucketSize (s .sizes)) ⌝ }
+    ensures { λ r. ⌜ reached (now (flash .exit)) (now (spare .exit)) (now (disk .exit)) r ≡ after (s .sizes) (copyOf (s .sizes) (device (now (flash .entry)) (now (spare .entry)) (now (disk .entry))) b (now (bytes .entry)) (viewOf s)) (running (now (flash .entry)) (now (spare .entry)) (now (disk .entry)) meter) ⌝ }
+    ensures { λ _. ⌜ Lent (s .sizes) (now (flash .exit)) (now (spare .exit)) (now (disk .exit)) ⌝ }
+{
+    if s.reads.holds(b) {
+        return copying::copy(meter, s, 3, b, bytes, flash, spare, disk);
+    }
+    let room = oldest::drop_oldest(meter, s, flash, spare, disk);
+    let kind = copy_kind(s, b);
+    let left = room.meter;
+    let state = room.state;
+    copying::copy(left, state, kind, b, bytes, flash, spare, disk)
+}
+
+// The bytes asked for, unless the read was cut.
+fn show(cut: bool, offset: usize, bytes: &[u8], buffer: &mut [u8])
+    requires { ⌜ offset + length (now buffer) ≤ length (now bytes) ⌝ }
+    ensures { λ _. ⌜ now (buffer .exit) ≡ (if cut then now (buffer .entry) else part (now (bytes .entry)) offset (length (now (buffer .entry)))) ⌝ }
+{
+    if cut {
+        return;
+    }
+    let end = offset + buffer.len();
+    area::copy_over(buffer, &bytes[offset..end]);
+}
+
+// All bytes of b are gathered before the first store.
+fn copy_by(
+    s: State,
+    b: u16,
+    offset: usize,
+    buffer: &mut [u8],
+    allowance: usize,
+    bytes: &mut [u8],
+    flash: &mut [u8],
+    spare: &mut [u8],
+    disk: &mut [u8],
+) -> Outcome
+    requires { ⌜ Lent (s .sizes) (now flash) (now spare) (now disk) ⌝ }
+    requires { ⌜ Reads (viewOf s) b offset (length (now buffer)) (now spare) ⌝ }
+    requires { ⌜ (s .next ≤ 4294967294) × (length (now bytes) ≡ bucketSize (s .sizes)) ⌝ }
+    ensures { λ r. ⌜ handedBack (device (now (flash .exit)) (now (spare .exit)) (now (disk .exit))) (now (buffer .exit)) r ≡ handed s (carryOut allowance (readCall b offset (now (buffer .entry))) (viewOf s) (device (now (flash .entry)) (now (spare .entry)) (now (disk .entry))) (copyOf (s .sizes) (device (now (flash .entry)) (now (spare .entry)) (now (disk .entry))) b (merged (s .sizes) (viewOf s) (device (now (flash .entry)) (now (spare .entry)) (now (disk .entry))) b) (viewOf s))) ⌝ }
+{
+    gather::merged_into(s, b, flash, spare, disk, bytes);
+    let whole = Meter {
+        left: allowance,
+        cut: false,
+    };
+    let turn = make_copy(whole, s, b, bytes, flash, spare, disk);
+    let left = turn.meter;
+    let state = turn.state;
+    show(left.cut, offset, bytes, buffer);
+    outcome::finish(left, allowance, Answer::Done, s, state)
+}
+
+fn copy_small(
+    s: State,
+    b: u16,
+    offset: usize,
+    buffer: &mut [u8],
+    allowance: usize,
+    flash: &mut [u8],
+    spare: &mut [u8],
+    disk: &mut [u8],
+) -> Outcome
+    requires { ⌜ Lent (s .sizes) (now flash) (now spare) (now disk) ⌝ }
+    requires { ⌜ Reads (viewOf s) b offset (length (now buffer)) (now spare) ⌝ }
+    requires { ⌜ s .next ≤ 4294967294 ⌝ }
+    requires { ⌜ bucketSize (s .sizes) ≤ 2048 ⌝ }
+    ensures { λ r. ⌜ handedBack (device (now (flash .exit)) (now (spare .exit)) (now (disk .exit))) (now (buffer .exit)) r ≡ handed s (carryOut allowance (readCall b offset (now (buffer .entry))) (viewOf s) (device (now (flash .entry)) (now (spare .entry)) (now (disk .entry))) (copyOf (s .sizes) (device (now (flash .entry)) (now (spare .entry)) (now (disk .entry))) b (merged (s .sizes) (viewOf s) (device (now (flash .entry)) (now (spare .entry)) (now (disk .entry))) b) (viewOf s))) ⌝ }
+{
+    let mut bytes = [0u8; 2048];
+    let z = s.sizes;
+    let size = z.p * z.s;
+    copy_by(
+        s,
+        b,
+        offset,
+        buffer,
+        allowance,
+        &mut bytes[..size],
+        flash,
+        spare,
+        disk,
+    )
+}
+
+fn copy_large(
+    s: State,
+    b: u16,
+    offset: usize,
+    buffer: &mut [u8],
+    allowance: usize,
+    flash: &mut [u8],
+    spare: &mut [u8],
+    disk: &mut [u8],
+) -> Outcome
+    requires { ⌜ Lent (s .sizes) (now flash) (now spare) (now disk) ⌝ }
+    requires { ⌜ Reads (viewOf s) b offset (length (now buffer)) (now spare) ⌝ }
+    requires { ⌜ s .next ≤ 4294967294 ⌝ }
+    ensures { λ r. ⌜ handedBack (device (now (flash .exit)) (now (spare .exit)) (now (disk .exit))) (now (buffer .exit)) r ≡ handed s (carryOut allowance (readCall b offset (now (buffer .entry))) (viewOf s) (device (now (flash .entry)) (now (spare .entry)) (now (disk .entry))) (copyOf (s .sizes) (device (now (flash .entry)) (now (spare .entry)) (now (disk .entry))) b (merged (s .sizes) (viewOf s) (device (now (flash .entry)) (now (spare .entry)) (now (disk .entry))) b) (viewOf s))) ⌝ }
+{
+    let mut bytes = [0u8; 65536];
+    let z = s.sizes;
+    let size = z.p * z.s;
+    copy_by(
+        s,
+        b,
+        offset,
+        buffer,
+        allowance,
+        &mut bytes[..size],
+        flash,
+        spare,
+        disk,
+    )
+}
+
+// A bucket of at most 2,048 bytes is gathered in an array of that size: there is less to clear.
+fn copy_read(
+    s: State,
+    b: u16,
+    offset: usize,
+    buffer: &mut [u8],
+    allowance: usize,
+    flash: &mut [u8],
+    spare: &mut [u8],
+    disk: &mut [u8],
+) -> Outcome
+    requires { ⌜ Lent (s .sizes) (now flash) (now spare) (now disk) ⌝ }
+    requires { ⌜ Reads (viewOf s) b offset (length (now buffer)) (now spare) ⌝ }
+    requires { ⌜ s .next ≤ 4294967294 ⌝ }
+    ensures { λ r. ⌜ handedBack (device (now (flash .exit)) (now (spare .exit)) (now (disk .exit))) (now (buffer .exit)) r ≡ handed s (carryOut allowance (readCall b offset (now (buffer .entry))) (viewOf s) (device (now (flash .entry)) (now (spare .entry)) (now (disk .entry))) (copyOf (s .sizes) (device (now (flash .entry)) (now (spare .entry)) (now (disk .entry))) b (merged (s .sizes) (viewOf s) (device (now (flash .entry)) (now (spare .entry)) (now (disk .entry))) b) (viewOf s))) ⌝ }
+{
+    let z = s.sizes;
+    let size = z.p * z.s;
+    if size <= 2048 {
+        copy_small(s, b, offset, buffer, allowance, flash, spare, disk)
+    } else {
+        copy_large(s, b, offset, buffer, allowance, flash, spare, disk)
+    }
+}
+
+// A read hit and write miss.
+fn hits_read_alone(s: State, b: u16) -> bool
+    ensures { λ r. ⌜ r ≡ (holds b (entriesOf (s .reads)) && not (holds b (entriesOf (s .writes)))) ⌝ }
+{
+    let read = s.reads.holds(b);
+    read & !s.writes.holds(b)
+}
+
+// With fewer than two epochs left nothing is moved either.
+fn read_bucket(
+    s: State,
+    b: u16,
+    offset: usize,
+    buffer: &mut [u8],
+    allowance: usize,
+    flash: &mut [u8],
+    spare: &mut [u8],
+    disk: &mut [u8],
+) -> Outcome
+    requires { ⌜ Lent (s .sizes) (now flash) (now spare) (now disk) ⌝ }
+    requires { ⌜ Reads (viewOf s) b offset (length (now buffer)) (now spare) ⌝ }
+    ensures { λ r. ⌜ handedBack (device (now (flash .exit)) (now (spare .exit)) (now (disk .exit))) (now (buffer .exit)) r ≡ handed s (carryOut allowance (readCall b offset (now (buffer .entry))) (viewOf s) (device (now (flash .entry)) (now (spare .entry)) (now (disk .entry))) (read (s .sizes) (device (now (flash .entry)) (now (spare .entry)) (now (disk .entry))) b (viewOf s))) ⌝ }
+{
+    if 4294967294 < s.next {
+        return answer(s, s, b, offset, buffer, allowance, flash, spare, disk);
+    }
+    if hits_read_alone(s, b) {
+        let touched = s.touch(b);
+        return answer(s, touched, b, offset, buffer, allowance, flash, spare, disk);
+    }
+    copy_read(s, b, offset, buffer, allowance, flash, spare, disk)
+}
+
+// The entry.
+pub fn read(
+    s: State,
+    b: u16,
+    offset: usize,
+    buffer: &mut [u8],
+    allowance: usize,
+    flash: &mut [u8],
+    spare: &mut [u8],
+    disk: &mut [u8],
+) -> Outcome
+    ensures { λ r. ⌜ handedBack (device (now (flash .exit)) (now (spare .exit)) (now (disk .exit))) (now (buffer .exit)) r ≡ handed s (call allowance (readCall b offset (now (buffer .entry))) (viewOf s) (device (now (flash .entry)) (now (spare .entry)) (now (disk .entry)))) ⌝ }
+{
+    let number = checks::read_refusal(s, b, offset, buffer.len(), flash, spare, disk);
+    if number == 0 {
+        read_bucket(s, b, offset, buffer, allowance, flash, spare, disk)
+    } else {
+        outcome::refused(number, s)
+    }
+}
