@@ -1,0 +1,175 @@
+// The call that a line asks for, made on the parts of the program's arrays that hold chip and disk.
+use frame::Request;
+use model::Sizes;
+use outcome::Outcome;
+use state::State;
+ghost use mathlib.Core.Path.{_≡_};
+ghost use mathlib.Core.Bool.{true};
+ghost use mathlib.Core.List.{[]};
+ghost use Prim.Native.Nat.{_<_, _≤_};
+ghost use lib.ListN.{length, take, drop, replicate};
+ghost use Rattle.model.specs.Calls.{readCall, writeCall, lentBuffer, call};
+ghost use Rattle.model.specs.Driving.{bytesOf, lineFits, allowance, callOf, lend};
+ghost use Rattle.geometry.specs.Geometry.{device};
+ghost use Rattle.state.specs.View.{viewOf};
+ghost use Rattle.outcome.specs.Handed.{handedBack, handed};
+ghost use Rattle.frame.specs.Request.{requestOf};
+ghost use Rattle.calls.specs.Arrays.{Arrays, Held, inArrays};
+
+// What the entry handed back, and how many bytes of the lent buffer are the call's own.
+pub struct Made {
+    pub outcome: Outcome,
+    pub read: usize,
+}
+
+// A read into a buffer of zeros, as long as the bytes asked for.
+fn read_call(
+    s: State,
+    allowance: usize,
+    bucket: usize,
+    offset: usize,
+    buffer: &mut [u8],
+    flash: &mut [u8],
+    spare: &mut [u8],
+    disk: &mut [u8],
+) -> Outcome
+    requires { ⌜ bucket < 65536 ⌝ }
+    ensures { λ r. ⌜ handedBack (device (now (flash .exit)) (now (spare .exit)) (now (disk .exit))) (now (buffer .exit)) r ≡ handed s (call allowance (readCall bucket offset (replicate (length (now (buffer .entry))) 0)) (viewOf s) (device (now (flash .entry)) (now (spare .entry)) (now (disk .entry)))) ⌝ }
+{
+    area::fill(buffer, 0);
+    let back = bucket as u16;
+    read::read(s, back, offset, buffer, allowance, flash, spare, disk)
+}
+
+// A write of the bytes behind the line's fields, read from its digits into a buffer as long as they are.
+fn write_call(
+    s: State,
+    allowance: usize,
+    bucket: usize,
+    offset: usize,
+    line: &[u8],
+    bytes: &mut [u8],
+    flash: &mut [u8],
+    spare: &mut [u8],
+    disk: &mut [u8],
+) -> Outcome
+    requires { ⌜ (bucket < 65536) × (lineFits (now line) ≡ true) ⌝ }
+    requires { ⌜ length (now bytes) ≡ length (drop 7 (bytesOf (now line))) ⌝ }
+    ensures { λ r. ⌜ handedBack (device (now (flash .exit)) (now (spare .exit)) (now (disk .exit))) [] r ≡ handed s (call allowance (writeCall bucket offset (drop 7 (bytesOf (now (line .entry))))) (viewOf s) (device (now (flash .entry)) (now (spare .entry)) (now (disk .entry)))) ⌝ }
+{
+    frame::write_data(line, bytes);
+    let back = bucket as u16;
+    write::write(s, back, offset, bytes, allowance, flash, spare, disk)
+}
+
+// The call of a line that is none of the paper's F0; recover at the sizes z, those of the last Done format.
+fn make(
+    s: State,
+    z: Sizes,
+    request: Request,
+    line: &[u8],
+    buffer: &mut [u8],
+    flash: &mut [u8],
+    spare: &mut [u8],
+    disk: &mut [u8],
+) -> Made
+    requires { ⌜ (lineFits (now line) ≡ true) × (request ≡ requestOf (now line)) ⌝ }
+    requires { ⌜ 65535 ≤ length (now buffer) ⌝ }
+    ensures { λ r. ⌜ handedBack (device (now (flash .exit)) (now (spare .exit)) (now (disk .exit))) (take (r .read) (now (buffer .exit))) (r .outcome) ≡ handed s (call (allowance (bytesOf (now (line .entry)))) (callOf z (bytesOf (now (line .entry)))) (viewOf s) (device (now (flash .entry)) (now (spare .entry)) (now (disk .entry)))) ⌝ }
+    ensures { λ r. ⌜ r .read ≡ length (lentBuffer (callOf z (bytesOf (now (line .entry))))) ⌝ }
+{
+    match request {
+        Request::Bad => Made {
+            outcome: outcome::refused(240, s),
+            read: 0,
+        },
+        Request::Format { allowance, sizes } => Made {
+            outcome: format::format(s, sizes, allowance, flash, spare, disk),
+            read: 0,
+        },
+        Request::Read {
+            allowance,
+            bucket,
+            offset,
+            length,
+        } => Made {
+            outcome: read_call(
+                s,
+                allowance,
+                bucket,
+                offset,
+                &mut buffer[..length],
+                flash,
+                spare,
+                disk,
+            ),
+            read: length,
+        },
+        Request::Write {
+            allowance,
+            bucket,
+            offset,
+        } => {
+            let size = frame::data_length(line);
+            Made {
+                outcome: write_call(
+                    s,
+                    allowance,
+                    bucket,
+                    offset,
+                    line,
+                    &mut buffer[..size],
+                    flash,
+                    spare,
+                    disk,
+                ),
+                read: 0,
+            }
+        }
+        Request::Erase(allowance) => Made {
+            outcome: erasestep::erase_step(s, allowance, flash, spare, disk),
+            read: 0,
+        },
+        Request::Drain(allowance) => Made {
+            outcome: drain::drain(s, allowance, flash, spare, disk),
+            read: 0,
+        },
+        Request::Recover(allowance) => Made {
+            outcome: recover::recover(s, z, allowance, flash, spare, disk),
+            read: 0,
+        },
+    }
+}
+
+// "Data, spare and disk are each lent from the start of an array."
+pub fn make_in_arrays(
+    s: State,
+    z: Sizes,
+    request: Request,
+    line: &[u8],
+    buffer: &mut [u8],
+    flash: &mut [u8],
+    spare: &mut [u8],
+    disk: &mut [u8],
+) -> Made
+    requires { ⌜ (lineFits (now line) ≡ true) × (request ≡ requestOf (now line)) ⌝ }
+    requires { ⌜ 65535 ≤ length (now buffer) ⌝ }
+    requires { ⌜ Arrays (now flash) (now spare) (now disk) × Held z ⌝ }
+    ensures { λ r. ⌜ handedBack (device (now (flash .exit)) (now (spare .exit)) (now (disk .exit))) (take (r .read) (now (buffer .exit))) (r .outcome) ≡ inArrays z (device (now (flash .entry)) (now (spare .entry)) (now (disk .entry))) (handed s (call (allowance (bytesOf (now (line .entry)))) (callOf z (bytesOf (now (line .entry)))) (viewOf s) (lend z (device (now (flash .entry)) (now (spare .entry)) (now (disk .entry)))))) ⌝ }
+    ensures { λ r. ⌜ r .read ≡ length (lentBuffer (callOf z (bytesOf (now (line .entry))))) ⌝ }
+{
+    let bucket = z.p * z.s;
+    let flash_size = z.c * bucket;
+    let spare_size = z.c * z.p * 16;
+    let disk_size = z.b * bucket;
+    make(
+        s,
+        z,
+        request,
+        line,
+        buffer,
+        &mut flash[..flash_size],
+        &mut spare[..spare_size],
+        &mut disk[..disk_size],
+    )
+}

@@ -1,0 +1,78 @@
+-- `drive::called_line` meets its contract.
+use lib.ListN.{length-take}
+use native.Mathlib.Omega.{arith}
+use borrow.Author.Needs.{needs}
+use Rattle.calls.proofs.Asked.{two-small}
+use Rattle.geometry.specs.Geometry.{device}
+use Rattle.model.specs.Driving.{bytesOf, allowance}
+use Rattle.drive.proofs.Lines.{line-called, line-stores, line-room}
+use Rattle.drive.proofs.Requests.{read-short}
+use Rattle.drive.proofs.called_line.Statement.{statement}
+use Rattle.drive.proofs.called_line.Tie as tie
+
+make-in-arrays-requires : tie.Need-make-in-arrays-requires
+make-in-arrays-requires c κs = let p = c .before .before .before .before .before .before .before .before .before .before .pre in (p .0, (p .1 .1 .buffer-room, (p .1 .0, p .1 .2)))
+
+slice-reshare-prefix-print : tie.Need-slice-reshare-prefix-print
+slice-reshare-prefix-print c = let start = c .before .before .before .before .before .before .before .before .before .before .before .before .before .before .before .before .before .before .before .before in omega (arith, c .before .before .before .before .before .before .before .before .before .make-in-arrays .ensures .1, read-short (start .args .z) (start .args .line .now) (start .pre .0 .0), c .before .before .before .before .before .before .before .before .buffer .given, start .pre .1 .1 .buffer-room)
+
+slice-aggregate-print : tie.Need-slice-aggregate-print
+slice-aggregate-print c = let start = c .before .before .before .before .before .before .before .before .before .before .before .before .before .before .before .before .before .before .before .before .before in simp length-take (omega (arith, c .before .before .before .before .before .before .before .before .before .before .make-in-arrays .ensures .1, read-short (start .args .z) (start .args .line .now) (start .pre .0 .0), c .before .before .before .before .before .before .before .before .before .buffer .given, start .pre .1 .1 .buffer-room))
+
+print-requires : tie.Need-print-requires
+unfolding allowance
+print-requires c κs = let start = c .before .before .before .before .before .before .before .before .before .before .before .before .before .before .before .before .before .before .before .before .before .before in
+    let a = start .args in
+    let d = device (a .flash .now) (a .spare .now) (a .disk .now) in
+    let made = c .before .before .before .before .before .before .before .before .before .before .before .make-in-arrays .ensures in
+    let room = start .pre .1 .1 .out-room in (
+      omega (arith, line-stores (a .z) (a .format) (a .r) d (bytesOf (a .line .now)) _ (made .0), two-small (a .line .now) 1 (start .pre .0 .0)),
+      omega arith,
+      λ e. simp length-take (omega (arith, line-room (a .z) (a .format) (a .r) d (bytesOf (a .line .now)) _ (made .0) e, made .1, start .pre .1 .2 .disk-room)),
+    )
+
+is-done-requires : tie.Need-is-done-requires
+is-done-requires c κs = search needs
+
+settle-requires : tie.Need-settle-requires
+settle-requires c κs = search needs
+
+same-length : tie.Need-same-length
+same-length c = omega (arith, c .before .before .before .before .before .before .before .before .before .before .before .before .before .before .before .buffer .given)
+
+same-length-2 : tie.Need-same-length-2
+same-length-2 c = search needs
+
+same-length-3 : tie.Need-same-length-3
+same-length-3 c = search needs
+
+same-length-4 : tie.Need-same-length-4
+same-length-4 c = search needs
+
+same-length-5 : tie.Need-same-length-5
+same-length-5 c = search needs
+
+returns : tie.Need-returns
+returns c = let start = c .before .before .before .before .before .before .before .before .before .before .before .before .before .before .before .before .before .before .before .before .before .before .before .before .before .before .before in
+    let a = start .args in (
+      line-called (a .z) (a .format) (a .r) (device (a .flash .now) (a .spare .now) (a .disk .now)) (bytesOf (a .line .now)) _ (c .before .before .before .before .before .before .before .before .before .before .before .before .before .before .before .before .make-in-arrays .ensures .0)
+          (record { recorder = c .settle .result; length = c .before .before .before .before .print .result }) _ (rw (c .before .is-done .ensures) at (c .settle .ensures)) (c .before .before .before .before .print .ensures .0),
+      c .before .before .before .before .print .ensures .1,
+    )
+
+pub called-line-spec : {M : Type 1} → statement M
+called-line-spec =
+    tie.close
+    (tie.spec
+    make-in-arrays-requires
+    slice-reshare-prefix-print
+    slice-aggregate-print
+    print-requires
+    is-done-requires
+    settle-requires
+    same-length
+    same-length-2
+    same-length-3
+    same-length-4
+    same-length-5
+    returns)

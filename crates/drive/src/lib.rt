@@ -1,0 +1,221 @@
+// A line of the driving program: what is printed of it, and the recorder that it leaves.
+use frame::Request;
+use model::Answer;
+use model::Sizes;
+use outcome::Outcome;
+use state::State;
+ghost use mathlib.Core.Path.{_≡_};
+ghost use mathlib.Core.Bool.{true};
+ghost use mathlib.Core.List.{[]};
+ghost use Prim.Native.Nat.{_+_, _*_, _<_, _≤_};
+ghost use lib.ListN.{length, take};
+ghost use Rattle.model.specs.declared.Answer.the-variants.{Done};
+ghost use Rattle.model.specs.Calls.{isDone};
+ghost use Rattle.model.specs.Driving.{bytesOf, operation, lineFits, formatSizes, tooLarge, shown, printed, formatLine, callLine, onLine};
+ghost use Rattle.geometry.specs.Geometry.{device, Limits};
+ghost use Rattle.frame.specs.Request.{requestOf};
+ghost use Rattle.outcome.specs.Handed.{handedBack};
+ghost use Rattle.calls.specs.Arrays.{Arrays, Held};
+ghost use Rattle.drive.specs.Recorder.{recorderOf, printedOf, outcomeOf, Ready, Room, after, calledLine};
+
+// What the program holds from line to line beside its arrays; the sizes are those of the last Done format, if there was one.
+pub struct Recorder {
+    pub state: State,
+    pub formatted: bool,
+    pub sizes: Sizes,
+}
+
+// The recorder after a line, and how many characters were printed of it.
+pub struct Printed {
+    pub recorder: Recorder,
+    pub length: usize,
+}
+
+fn is_done(answer: Answer) -> bool
+    ensures { λ r. ⌜ r ≡ isDone answer ⌝ }
+{
+    match answer {
+        Answer::Done => true,
+        Answer::Idle => false,
+        Answer::Cut => false,
+        Answer::Refused(number) => false,
+    }
+}
+
+// "answer byte, stores (2), bytes read if Done": "all but Done and Cut print stores 0000".
+fn print(o: Outcome, bytes: &[u8], out: &mut [u8]) -> usize
+    requires { ⌜ (o .stores < 65536) × (7 ≤ length (now out)) × (o .answer ≡ Done → 7 + length (now bytes) * 2 ≤ length (now out)) ⌝ }
+    ensures { λ r. ⌜ take r (now (out .exit)) ≡ printed (outcomeOf (handedBack (device [] [] []) (now (bytes .entry)) o)) ⌝ }
+    ensures { λ r. ⌜ r ≤ length (now (out .exit)) ⌝ }
+{
+    let answer = o.answer;
+    match answer {
+        Answer::Done => text::show(0, o.stores, bytes, out),
+        Answer::Idle => text::show(16, 0, b"", out),
+        Answer::Cut => text::show(17, o.stores, b"", out),
+        Answer::Refused(number) => text::show(number, 0, b"", out),
+    }
+}
+
+// A line that makes no call.
+fn no_call(answer: u8, r: Recorder, out: &mut [u8]) -> Printed
+    requires { ⌜ 7 ≤ length (now out) ⌝ }
+    ensures { λ p. ⌜ (p .recorder ≡ r) × (take (p .length) (now (out .exit)) ≡ shown answer 0 []) ⌝ }
+    ensures { λ p. ⌜ p .length ≤ length (now (out .exit)) ⌝ }
+{
+    let length = text::show(answer, 0, b"", out);
+    Printed {
+        recorder: r,
+        length,
+    }
+}
+
+// "F1 for valid sizes where C × P × (S + 16) or B × P × S is beyond its buffers"
+fn too_large(z: Sizes) -> bool
+    requires { ⌜ Limits z ⌝ }
+    ensures { λ r. ⌜ r ≡ tooLarge z ⌝ }
+{
+    let chip = z.c * z.p * (z.s + 16);
+    let bucket = z.p * z.s;
+    (32768 < chip) | (16384 < z.b * bucket)
+}
+
+// The recorder after a call at the sizes z: a Done format's sizes are kept.
+fn settle(r: Recorder, z: Sizes, state: State, formats: bool) -> Recorder
+    ensures { λ p. ⌜ p ≡ after r z state formats ⌝ }
+{
+    let formatted = r.formatted | formats;
+    if formats {
+        Recorder {
+            state,
+            formatted,
+            sizes: z,
+        }
+    } else {
+        let sizes = r.sizes;
+        Recorder {
+            state,
+            formatted,
+            sizes,
+        }
+    }
+}
+
+// A line that makes its call, at the sizes z.
+fn called_line(
+    r: Recorder,
+    z: Sizes,
+    format: bool,
+    request: Request,
+    line: &[u8],
+    buffer: &mut [u8],
+    flash: &mut [u8],
+    spare: &mut [u8],
+    disk: &mut [u8],
+    out: &mut [u8],
+) -> Printed
+    requires { ⌜ (lineFits (now line) ≡ true) × (request ≡ requestOf (now line)) ⌝ }
+    requires { ⌜ Arrays (now flash) (now spare) (now disk) × Room (now buffer) (now out) × Held z ⌝ }
+    ensures { λ p. ⌜ printedOf p (now (flash .exit)) (now (spare .exit)) (now (disk .exit)) (now (out .exit)) ≡ calledLine z format (recorderOf r (now (flash .entry)) (now (spare .entry)) (now (disk .entry))) (bytesOf (now (line .entry))) ⌝ }
+    ensures { λ p. ⌜ p .length ≤ length (now (out .exit)) ⌝ }
+{
+    let made = calls::make_in_arrays(r.state, z, request, line, buffer, flash, spare, disk);
+    let outcome = made.outcome;
+    let read = made.read;
+    let length = print(outcome, &buffer[..read], out);
+    let answer = outcome.answer;
+    let formats = format & is_done(answer);
+    let recorder = settle(r, z, outcome.state, formats);
+    Printed { recorder, length }
+}
+
+fn format_line(
+    r: Recorder,
+    z: Sizes,
+    request: Request,
+    line: &[u8],
+    buffer: &mut [u8],
+    flash: &mut [u8],
+    spare: &mut [u8],
+    disk: &mut [u8],
+    out: &mut [u8],
+) -> Printed
+    requires { ⌜ (lineFits (now line) ≡ true) × (request ≡ requestOf (now line)) ⌝ }
+    requires { ⌜ (operation (bytesOf (now line)) ≡ 1) × (z ≡ formatSizes (bytesOf (now line))) ⌝ }
+    requires { ⌜ Arrays (now flash) (now spare) (now disk) × Room (now buffer) (now out) ⌝ }
+    ensures { λ p. ⌜ printedOf p (now (flash .exit)) (now (spare .exit)) (now (disk .exit)) (now (out .exit)) ≡ formatLine (recorderOf r (now (flash .entry)) (now (spare .entry)) (now (disk .entry))) (bytesOf (now (line .entry))) ⌝ }
+    ensures { λ p. ⌜ p .length ≤ length (now (out .exit)) ⌝ }
+{
+    if !geometry::limits(z) {
+        return no_call(1, r, out);
+    }
+    if too_large(z) {
+        return no_call(241, r, out);
+    }
+    called_line(r, z, true, request, line, buffer, flash, spare, disk, out)
+}
+
+// "02 to 06 before a format that was Done print 030000."
+fn call_line(
+    r: Recorder,
+    request: Request,
+    line: &[u8],
+    buffer: &mut [u8],
+    flash: &mut [u8],
+    spare: &mut [u8],
+    disk: &mut [u8],
+    out: &mut [u8],
+) -> Printed
+    requires { ⌜ (lineFits (now line) ≡ true) × (request ≡ requestOf (now line)) ⌝ }
+    requires { ⌜ Arrays (now flash) (now spare) (now disk) × Room (now buffer) (now out) × Ready (r .formatted) (r .sizes) ⌝ }
+    ensures { λ p. ⌜ printedOf p (now (flash .exit)) (now (spare .exit)) (now (disk .exit)) (now (out .exit)) ≡ callLine (recorderOf r (now (flash .entry)) (now (spare .entry)) (now (disk .entry))) (bytesOf (now (line .entry))) ⌝ }
+    ensures { λ p. ⌜ p .length ≤ length (now (out .exit)) ⌝ }
+{
+    if !r.formatted {
+        return no_call(3, r, out);
+    }
+    called_line(
+        r,
+        r.sizes,
+        false,
+        request,
+        line,
+        buffer,
+        flash,
+        spare,
+        disk,
+        out,
+    )
+}
+
+// The line's text stands at the start of `out`. "F0, before all else".
+pub fn on_line(
+    r: Recorder,
+    line: &[u8],
+    buffer: &mut [u8],
+    flash: &mut [u8],
+    spare: &mut [u8],
+    disk: &mut [u8],
+    out: &mut [u8],
+) -> Printed
+    requires { ⌜ Arrays (now flash) (now spare) (now disk) × Room (now buffer) (now out) × Ready (r .formatted) (r .sizes) ⌝ }
+    ensures { λ p. ⌜ printedOf p (now (flash .exit)) (now (spare .exit)) (now (disk .exit)) (now (out .exit)) ≡ onLine (recorderOf r (now (flash .entry)) (now (spare .entry)) (now (disk .entry))) (now (line .entry)) ⌝ }
+    ensures { λ p. ⌜ Ready (p .recorder .formatted) (p .recorder .sizes) × (p .length ≤ length (now (out .exit))) ⌝ }
+{
+    let request = frame::request_of(line);
+    match request {
+        Request::Bad => no_call(240, r, out),
+        Request::Format { allowance, sizes } => format_line(
+            r,
+            sizes,
+            request,
+            line,
+            buffer,
+            flash,
+            spare,
+            disk,
+            out,
+        ),
+        _ => call_line(r, request, line, buffer, flash, spare, disk, out),
+    }
+}
