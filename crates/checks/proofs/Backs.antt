@@ -15,7 +15,7 @@ use Rattle.model.specs.Stores.{tagOf}
 use Rattle.model.specs.Image.{used, backOf, isWrite, isCopy, complete}
 use Rattle.model.specs.State.{State, isOf, holds, cacheBucket, caches, isBelow, readAgrees, writeAgrees, stateFits}
 use Rattle.model.proofs.Formed.{formed-of, page-fields}
-use Rattle.checks.proofs.Opens.{Image, Open, open-below}
+use Rattle.checks.proofs.Opens.{Image, Open, open-orderly}
 
 module _ {z : Sizes} {d : Device} (o : Image z d) where
   -- the back-end bucket of a programmed page
@@ -44,7 +44,7 @@ module _ {s : State} {d : Device} (o : Open s d) (b : ℕ) where
       let z = s .sizes in
       let whole = and-left (complete z d (e .cache)) (eqb (backOf z d (e .cache)) (e .back)) a in
       (and-left (used z d (e .cache)) _ (and-left (isCopy z d (e .cache)) _ whole), eqb-true (backOf z d (e .cache)) (e .back) (and-right (complete z d (e .cache)) _ a)))
-      b (s .reads) (every-at _ (o .fits) 5) (open-below o .reads) h
+      b (s .reads) (every-at _ (o .fits) 5) (open-orderly o .reads) h
 
   pub write-back : holds b (s .writes) ≡ true → b < s .sizes .b
   unfolding stateFits writeAgrees isWrite
@@ -52,4 +52,4 @@ module _ {s : State} {d : Device} (o : Open s d) (b : ℕ) where
       let z = s .sizes in
       let t = every-at _ a in
       (and-left (used z d (e .cache)) _ (t 0), eqb-true (backOf z d (e .cache)) (e .back) (t 1)))
-      b (s .writes) (every-at _ (o .fits) 6) (open-below o .writes) h
+      b (s .writes) (every-at _ (o .fits) 6) (open-orderly o .writes) h

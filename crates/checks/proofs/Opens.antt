@@ -1,6 +1,6 @@
 -- What a call may rely on once it is not turned down.
 use Prim.Native.Nat.{ℕ, _≤_}
-use mathlib.Core.Path.{_≡_}
+use mathlib.Core.Path.{_≡_, _∙_}
 use mathlib.Core.Bool.{true}
 use mathlib.Core.List.{List, [], _∷_, _++_, append-nil}
 use lib.Dec.{leb}
@@ -14,10 +14,11 @@ use Rattle.model.specs.Calls.{Test, firstFailed, lentTests, runningTests, place
 use Rattle.model.proofs.Calling.{Range, first-passed, place-passed}
 use Rattle.geometry.specs.Geometry.{Limits, Lent}
 use Rattle.geometry.proofs.Passed.{limits-hold, lengths-hold, lent-passed}
-use Rattle.image.specs.Chip.{Chip}
-use Rattle.state.specs.View.{Bounded}
+use Rattle.image.specs.Chip.{Chip, spareOnly}
+use Rattle.rules.proofs.SameSpare.{same-well-formed}
 use Rattle.state.proofs.Allocate.{Queued, queues-hold, bounded}
-use Rattle.state.proofs.Below.{Below, queues-below}
+use Rattle.state.proofs.Below.{queues-below}
+use Rattle.steps.specs.Ready.{Orderly}
 use Rattle.checks.proofs.Failed.{none-fails}
 use Rattle.checks.proofs.Rest.{running-numbered}
 
@@ -84,8 +85,17 @@ module _ {s : State} {d : Device} (o : Open s d) where
   pub open-queued : Queued s
   open-queued = queues-hold s d (o .fits)
 
-  pub open-below : Below s
-  open-below = queues-below s (open-queued .below)
+  pub open-orderly : Orderly s
+  open-orderly =
+      let below = queues-below s (open-queued .below) in
+      record {
+        limits = o .image .limits;
+        bounded = bounded s d (o .fits) (o .limited);
+        reads = below .reads;
+        writes = below .writes;
+        gc = below .gc;
+        free = below .free;
+      }
 
-  pub open-bounded : Bounded s
-  open-bounded = bounded s d (o .fits) (o .limited)
+  pub open-formed : wellFormed (s .sizes) (spareOnly (d .spare)) ≡ true
+  open-formed = same-well-formed (s .sizes) d ∙ o .image .formed

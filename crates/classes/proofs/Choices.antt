@@ -1,12 +1,11 @@
 -- Recovery's choices as selections from selections.
 use Prim.Native.Nat.{ℕ, _≤_, _<_}
-use mathlib.Core.Path.{_≡_, refl, sym, ap, _∙_}
-use mathlib.Core.Bool.{Bool, true, not, _&&_}
+use mathlib.Core.Path.{_≡_, sym, ap, _∙_}
+use mathlib.Core.Bool.{Bool, true, not}
 use mathlib.Core.List.{List}
 use lib.ListN.{length, getD}
-use lib.Dec.{ltb, eqb}
 use borrow.Author.Tests.{ltb-true}
-use Rattle.lists.specs.Lists.{all, any, keep, below, member, times}
+use Rattle.lists.specs.Lists.{all, any, keep, below, member}
 use Rattle.lists.proofs.Tests.{and-left}
 use Rattle.lists.proofs.Arrays.{take-used}
 use Rattle.model.specs.declared.Sizes.{Sizes}

@@ -1,5 +1,5 @@
 -- Laws of selections: one after another, by tests that agree, and counts of what passes.
-use Prim.Native.Nat.{ℕ, zero, suc, _+_, _≤_, _<_}
+use Prim.Native.Nat.{ℕ, _+_, _≤_, _<_}
 use mathlib.Core.Path.{_≡_, refl, sym, ap, _∙_}
 use mathlib.Core.Bool.{Bool, true, false, not, _&&_, _||_, true≢false}
 use mathlib.Core.List.{List, [], _∷_, _++_, append-nil}
@@ -14,7 +14,7 @@ use Rattle.lists.specs.Arrays.{joined}
 use Rattle.lists.proofs.Tests.{and-left, and-right, and-true}
 use Rattle.lists.proofs.Rows.{length-row}
 use Rattle.lists.proofs.Counts.{times-cons, times-self, in-all}
-use Rattle.lists.proofs.Orders.{kept-in, kept-below, below-kept, in-any, member-in, times-below}
+use Rattle.lists.proofs.Orders.{kept-below, below-kept, in-any, member-in}
 use Rattle.lists.proofs.Arrays.{all-at, keep-step, keep-length, joined-fits}
 
 module _ {A : Type 0} where

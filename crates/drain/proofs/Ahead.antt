@@ -6,23 +6,20 @@ use mathlib.Core.List.{List}
 use native.Mathlib.Omega.{arith}
 use Rattle.lists.specs.Lists.{if_then_else_}
 use Rattle.model.specs.declared.Sizes.{Sizes}
-use Rattle.model.specs.Sizes.{Device, flashSize, spareSize, diskSize}
+use Rattle.model.specs.Sizes.{Device}
 use Rattle.model.specs.Stores.{bucketBytes, diskBytes, unitStores}
 use Rattle.model.specs.Image.{merge}
 use Rattle.model.specs.State.{State, holds, cacheOf}
 use Rattle.model.specs.Steps.{baseBytes, merged}
 use Rattle.model.specs.Operations.{drainStores}
-use Rattle.model.proofs.Frames.{Lengths}
-use Rattle.geometry.specs.Geometry.{device, Lent}
+use Rattle.geometry.specs.Geometry.{device}
+use Rattle.geometry.proofs.Passed.{lengths-of}
 use Rattle.meter.specs.declared.Meter.{Meter}
 use Rattle.meter.specs.Run.{Run, running, runAll}
 use Rattle.units.proofs.Kept.{units-kept}
 use Rattle.merge.proofs.SameChip.{same-merge}
 use Rattle.gather.specs.Sources.{Sources}
 use Rattle.gather.proofs.Gathered.{merged-size}
-use Rattle.steps.proofs.Inside.{cache-inside}
-use Rattle.steps.proofs.Kept.{chip-some}
-use Rattle.drain.specs.Listed.{Drains}
 
 -- e has the chip of d, and the disk of d from the back-end bucket b on
 pub record Ahead (z : Sizes) (b : ℕ) (d e : Device) : Type 0 where
@@ -32,17 +29,6 @@ pub record Ahead (z : Sizes) (b : ℕ) (d e : Device) : Type 0 where
 
 pub ahead-start : (z : Sizes) (b : ℕ) (d : Device) → Ahead z b d d
 ahead-start z b d = record { flash = refl; spare = refl; disk = λ x h. refl }
-
--- where the bytes of b are
-pub sources : {s : State} {flash spare disk : List ℕ} → Drains s spare → Lent (s .sizes) flash spare disk → (b : ℕ) → b < s .sizes .b → Sources s b flash spare disk
-sources {s} o l b h = record {
-  limits = o .orderly .limits;
-  lent = l;
-  well-formed = o .well-formed;
-  back = h;
-  read = cache-inside (s .sizes .c) b (s .reads) (o .orderly .reads) (chip-some (o .orderly));
-  write = cache-inside (s .sizes .c) b (s .writes) (o .orderly .writes) (chip-some (o .orderly));
-}
 
 module _ (z : Sizes) (s : State) (b : ℕ) {d e : Device} (a : Ahead z b d e) where
   base-ahead : baseBytes z s e b ≡ baseBytes z s d b
@@ -71,15 +57,11 @@ module _ {s : State} {b : ℕ} {flash spare disk : List ℕ} (from : Sources s b
   abbrev now : Device
   now = device flash spare disk
 
-  lengths : Lengths (s .sizes) now
-  unfolding flashSize spareSize diskSize
-  lengths = record { flash-is = from .lent .flash-length; spare-is = from .lent .spare-length; disk-is = from .lent .disk-length }
-
   pub ahead-more : {d : Device} {r : Run} → r ≡ runAll (s .sizes) (drainStores (s .sizes) now s b) (running flash spare disk meter)
       → Ahead (s .sizes) b d now → (n : ℕ) → b < n → Ahead (s .sizes) n d (r .device)
   unfolding drainStores
   ahead-more e a n h =
-      let k = units-kept (s .sizes) b (merged (s .sizes) s now b) (from .back) (merged-size from) (running flash spare disk meter) lengths in
+      let k = units-kept (s .sizes) b (merged (s .sizes) s now b) (from .back) (merged-size from) (running flash spare disk meter) (lengths-of (from .lent)) in
       rw e
       (record {
         flash = k .flash ∙ a .flash;

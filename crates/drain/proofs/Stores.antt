@@ -1,10 +1,11 @@
 -- The stores of a drain, from each listed back-end bucket to the next.
 use Prim.Native.Nat.{ℕ, _+_, _<_}
-use mathlib.Core.Path.{_≡_, sym, ap, _∙_}
+use mathlib.Core.Path.{_≡_, sym, _∙_}
 use mathlib.Core.Bool.{true}
-use mathlib.Core.List.{List, [], _∷_, _++_, append-nil, append-assoc}
+use mathlib.Core.List.{List}
 use native.Mathlib.Omega.{arith}
 use Rattle.lists.specs.Lists.{row, keep, below, member, concatMap}
+use Rattle.lists.proofs.Rows.{concat-more}
 use Rattle.model.specs.declared.Sizes.{Sizes}
 use Rattle.model.specs.Sizes.{Device}
 use Rattle.model.specs.Stores.{Store}
@@ -16,11 +17,6 @@ use Rattle.meter.proofs.Runs.{run-append}
 use Rattle.order.specs.Order.{nextOf}
 use Rattle.order.proofs.Next.{keep-more, next-passes, next-kept}
 use Rattle.unclean.proofs.Leaves.{same-unclean}
-
-concat-last : (f : ℕ → List Store) (l : List ℕ) (x : ℕ) → concatMap f (l ++ (x ∷ [])) ≡ concatMap f l ++ f x
-unfolding concatMap
-concat-last f [] x = append-nil (f x)
-concat-last f (y ∷ l) x = ap (λ (r : List Store). f y ++ r) (concat-last f l x) ∙ sym (append-assoc (f y) (concatMap f l) (f x))
 
 -- those of the back-end buckets below n
 unfoldable pub storesTo : Sizes → Device → State → ℕ → List Store
@@ -44,5 +40,5 @@ module _ (z : Sizes) (d : Device) (s : State) (l : List ℕ) (listed : (b : ℕ)
   stores-more b r h e =
       let f = drainStores z d s in
       let t = unclean z d s in
-      rw (next-kept t l (z .b) all-listed (b + 1) (omega arith), keep-more t b e, concat-last f (keep t (below b)) b)
+      rw (next-kept t l (z .b) all-listed (b + 1) (omega arith), keep-more t b e, concat-more f (keep t (below b)) b)
       (sym (run-append z (concatMap f (keep t (below b))) (f b) r))

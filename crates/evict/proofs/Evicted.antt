@@ -16,7 +16,7 @@ use Rattle.queue.proofs.Without.{without-length}
 use Rattle.meter.specs.Run.{Run, runAll}
 use Rattle.steps.specs.Turns.{Progress, after}
 use Rattle.steps.specs.Ready.{Orderly, Ready}
-use Rattle.steps.proofs.Kept.{Roomed, roomed, copied-orderly, dropped-orderly, dropped-ready}
+use Rattle.steps.proofs.Kept.{roomed, copied-orderly, dropped-orderly, dropped-ready}
 use Rattle.steps.proofs.Turns.{after-then}
 use Rattle.copying.specs.Fresh.{Copies}
 use Rattle.evict.specs.PutAway.{Evicts, putAway}

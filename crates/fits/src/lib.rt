@@ -4,8 +4,9 @@ use model::Sizes;
 use state::State;
 ghost use mathlib.Core.Path.{_≡_};
 ghost use mathlib.Core.Bool.{true};
-ghost use Prim.Native.Nat.{_≤_, _<_};
+ghost use Prim.Native.Nat.{_<_};
 ghost use Rattle.lists.specs.Lists.{all};
+ghost use Rattle.model.specs.Image.{wellFormed};
 ghost use Rattle.model.specs.State.{caches, queued, isBelow, readAgrees, writeAgrees, allBlank, topEpoch, stateFits};
 ghost use Rattle.image.specs.Chip.{Chip, spareOnly};
 ghost use Rattle.fifo.specs.View.{listOf};
@@ -13,9 +14,10 @@ ghost use Rattle.queue.specs.View.{entriesOf};
 ghost use Rattle.state.specs.View.{viewOf};
 ghost use Rattle.fits.specs.Fits.{queuesFit, tagsAgree, numbersFit};
 
-// A bucket's spare fields are read only once the queues are known to hold buckets of the chip alone.
+// A bucket's spare fields are read only once the queues are known to hold buckets of the chip alone. Number 4 goes before.
 pub fn state_fits(s: State, spare: &[u8]) -> bool
     requires { ⌜ Chip (s .sizes) (now spare) ⌝ }
+    requires { ⌜ wellFormed (s .sizes) (spareOnly (now spare)) ≡ true ⌝ }
     ensures { λ r. ⌜ r ≡ stateFits (viewOf s) (spareOnly (now (spare .entry))) ⌝ }
 {
     if !once::buckets_once(s) {
@@ -38,6 +40,7 @@ fn queues_fit(s: State) -> bool
 
 fn tags_agree(s: State, spare: &[u8]) -> bool
     requires { ⌜ Chip (s .sizes) (now spare) ⌝ }
+    requires { ⌜ wellFormed (s .sizes) (spareOnly (now spare)) ≡ true ⌝ }
     requires { ⌜ all (isBelow (s .sizes .c)) (queued (viewOf s)) ≡ true ⌝ }
     ensures { λ r. ⌜ r ≡ tagsAgree (viewOf s) (spareOnly (now (spare .entry))) ⌝ }
 {
@@ -130,8 +133,19 @@ fn writes_agree(queue: queue::Queue, z: Sizes, spare: &[u8]) -> bool
     agree
 }
 
+// A bucket made by the page rules has blank pages alone if its first is blank.
+fn all_blank(z: Sizes, c: usize, spare: &[u8]) -> bool
+    requires { ⌜ Chip z (now spare) ⌝ }
+    requires { ⌜ wellFormed z (spareOnly (now spare)) ≡ true ⌝ }
+    requires { ⌜ c < z .c ⌝ }
+    ensures { λ r. ⌜ r ≡ allBlank z (spareOnly (now (spare .entry))) c ⌝ }
+{
+    !image::used(z, c, spare)
+}
+
 fn free_blank(free: fifo::Fifo, z: Sizes, spare: &[u8]) -> bool
     requires { ⌜ Chip z (now spare) ⌝ }
+    requires { ⌜ wellFormed z (spareOnly (now spare)) ≡ true ⌝ }
     requires { ⌜ all (isBelow (z .c)) (listOf free) ≡ true ⌝ }
     ensures { λ r. ⌜ r ≡ all (allBlank z (spareOnly (now (spare .entry)))) (listOf free) ⌝ }
 {
@@ -141,7 +155,7 @@ fn free_blank(free: fifo::Fifo, z: Sizes, spare: &[u8]) -> bool
     let mut i = 0;
     while i < n {
         let c = items[i] as usize;
-        let clean = image::all_blank(z, c, spare);
+        let clean = all_blank(z, c, spare);
         blank = blank & clean;
         i += 1;
     }

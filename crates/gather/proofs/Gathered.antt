@@ -1,5 +1,5 @@
--- Base and merged bytes are as many as a bucket has.
-use Prim.Native.Nat.{ℕ}
+-- Where the bytes of a back-end bucket are; base and merged bytes are as many as a bucket has.
+use Prim.Native.Nat.{ℕ, _<_}
 use mathlib.Core.Path.{_≡_, sym, ap, _∙_}
 use mathlib.Core.Bool.{Bool, true, false}
 use mathlib.Core.List.{List}
@@ -8,17 +8,34 @@ use native.Mathlib.Omega.{arith}
 use lib.ListN.{length}
 use lib.Seq.{take-all}
 use Rattle.lists.specs.Lists.{if_then_else_, part}
-use Rattle.model.specs.Sizes.{bucketSize, flashSize, spareSize, diskSize}
+use Rattle.model.specs.Sizes.{bucketSize}
 use Rattle.model.specs.Stores.{bucketBytes, diskBytes}
-use Rattle.model.specs.Image.{merge}
+use Rattle.model.specs.Image.{wellFormed, merge}
 use Rattle.model.specs.State.{State, holds, cacheOf}
 use Rattle.model.specs.Steps.{baseBytes, merged}
 use Rattle.model.proofs.Frames.{Lengths, length-bucket, length-disk}
-use Rattle.geometry.specs.Geometry.{device}
+use Rattle.geometry.specs.Geometry.{device, Lent}
+use Rattle.geometry.proofs.Passed.{lengths-of}
 use Rattle.merge.specs.Window.{Readable}
 use Rattle.merge.proofs.Logs.{merged-length}
 use Rattle.merge.proofs.SameChip.{same-merge}
+use Rattle.image.specs.Chip.{spareOnly}
+use Rattle.steps.specs.Ready.{Orderly}
+use Rattle.steps.proofs.Inside.{cache-inside}
+use Rattle.steps.proofs.Kept.{chip-some}
 use Rattle.gather.specs.Sources.{Sources}
+
+-- the cache buckets of an orderly state are on the chip
+pub sources-of : {s : State} {b : ℕ} {flash spare disk : List ℕ} → Orderly s → wellFormed (s .sizes) (spareOnly spare) ≡ true → b < s .sizes .b
+    → Lent (s .sizes) flash spare disk → Sources s b flash spare disk
+sources-of {s} {b} o formed back lent = record {
+  limits = o .limits;
+  lent = lent;
+  well-formed = formed;
+  back = back;
+  read = cache-inside (s .sizes .c) b (s .reads) (o .reads) (chip-some o);
+  write = cache-inside (s .sizes .c) b (s .writes) (o .writes) (chip-some o);
+}
 
 module _ {s : State} {b : ℕ} {flash spare disk : List ℕ} (sources : Sources s b flash spare disk) where
   pub readable : Readable (s .sizes) flash spare
@@ -30,8 +47,7 @@ module _ {s : State} {b : ℕ} {flash spare disk : List ℕ} (sources : Sources 
   }
 
   lengths : Lengths (s .sizes) (device flash spare disk)
-  unfolding flashSize spareSize diskSize
-  lengths = record { flash-is = sources .lent .flash-length; spare-is = sources .lent .spare-length; disk-is = sources .lent .disk-length }
+  lengths = lengths-of (sources .lent)
 
   pub base-size : length (baseBytes (s .sizes) s (device flash spare disk) b) ≡ bucketSize (s .sizes)
   unfolding baseBytes

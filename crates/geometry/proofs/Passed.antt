@@ -1,5 +1,5 @@
 -- What passed tests say of sizes and lent areas, and how large products of sizes are.
-use Prim.Native.Nat.{ℕ, _+_, _*_, _≤_}
+use Prim.Native.Nat.{_+_, _*_, _≤_}
 use mathlib.Core.Path.{_≡_}
 use mathlib.Core.Bool.{true}
 use native.Mathlib.Nat.{mul-le-mul}
@@ -10,6 +10,7 @@ use Rattle.model.specs.declared.Sizes.{Sizes}
 use Rattle.model.specs.Sizes.{Device, limits, lengths, flashSize, spareSize, diskSize}
 use Rattle.model.specs.Calls.{firstFailed, lentTests}
 use Rattle.model.proofs.Calling.{first-passed}
+use Rattle.model.proofs.Frames.{Lengths}
 use Rattle.geometry.specs.Geometry.{Limits, Lent}
 
 module _ (z : Sizes) where
@@ -67,3 +68,7 @@ products l = record {
   flash = mul-le-mul (l .c-high) (mul-le-mul (l .p-high) (l .s-high));
   disk = mul-le-mul (l .b-high) (mul-le-mul (l .p-high) (l .s-high));
 }
+
+pub lengths-of : {z : Sizes} {d : Device} → Lent z (d .flash) (d .spare) (d .disk) → Lengths z d
+unfolding flashSize spareSize diskSize
+lengths-of l = record { flash-is = l .flash-length; spare-is = l .spare-length; disk-is = l .disk-length }

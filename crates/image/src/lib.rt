@@ -7,7 +7,6 @@ ghost use mathlib.Core.Path.{_≡_};
 ghost use Prim.Native.Nat.{_<_};
 ghost use Rattle.model.specs.Stores.{tagOf};
 ghost use Rattle.model.specs.Image.{used, epochOf, backOf, isWrite, isCopy, isDirty, complete, pageBlank, blanks};
-ghost use Rattle.model.specs.State.{allBlank};
 ghost use Rattle.spare.specs.Fields.{seen};
 ghost use Rattle.image.specs.Chip.{Chip, spareOnly};
 
@@ -132,12 +131,4 @@ pub fn blanks(z: Sizes, c: usize, spare: &[u8]) -> usize
         k += 1;
     }
     count
-}
-
-pub fn all_blank(z: Sizes, c: usize, spare: &[u8]) -> bool
-    requires { ⌜ Chip z (now spare) ⌝ }
-    requires { ⌜ c < z .c ⌝ }
-    ensures { λ r. ⌜ r ≡ allBlank z (spareOnly (now (spare .entry))) c ⌝ }
-{
-    blanks(z, c, spare) == z.p
 }

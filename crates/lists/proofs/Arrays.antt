@@ -9,7 +9,7 @@ use native.Mathlib.Omega.{arith}
 use lib.ListN.{length, take, drop, getD, set, replicate, length-append, length-take, length-map, drop-of-length-le}
 use lib.Seq.{take-suc, take-suc-set, take-all, take-at, take-nil, slice-cons, length-take-le, paste, paste-suc}
 use lib.Dec.{eqb, eqb·suc-zero}
-use Rattle.lists.specs.Lists.{if_then_else_, all, keep, empty, times}
+use Rattle.lists.specs.Lists.{if_then_else_, all, keep, empty}
 use Rattle.lists.specs.Arrays.{joined, padded}
 use Rattle.lists.proofs.Tests.{and-left, and-right}
 use Rattle.lists.proofs.Rows.{map-append}
@@ -140,12 +140,6 @@ module _ {A : Type 0} (t : A → Bool) where
       → keep t (take (i + 1) l) ≡ keep t (take i l) ++ (if b then getD l i d ∷ [] else [])
   unfolding keep
   keep-step i l d h b e = rw (done-more i l d h, keep-append t (take i l) (getD l i d ∷ []), e)
-
--- a loop that counts
-pub times-step : (x i n : ℕ) (l : List ℕ) → i < n → n ≤ length l → (b : Bool) → eqb x (getD l i 0) ≡ b
-    → times x (drop i (take n l)) ≡ (if b then times x (drop (i + 1) (take n l)) + 1 else times x (drop (i + 1) (take n l)))
-unfolding times
-times-step x i n l h k b e = rw (rest-more i n l 0 h k, e)
 
 -- An array of structs has its length by way of `map`: `search (needs, length-mapped)`.
 pub length-mapped : (X Y : Type 0) (f : X → Y) (l : List X) (n : ℕ) → length (map f l) ≡ n → length l ≡ n

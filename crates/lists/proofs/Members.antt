@@ -1,23 +1,19 @@
 -- Searches from an index on: whether a number stands in a list, and whether all of a list differ.
 use mathlib.Core.Path.{_≡_}
-use mathlib.Core.Bool.{true, false, not, _&&_}
+use mathlib.Core.Bool.{true, false, not, _&&_, _||_}
 use mathlib.Core.List.{List}
 use Prim.Native.Nat.{ℕ, _+_, _-_, _<_, _≤_}
 use native.Mathlib.Numerals.{add-one}
 use native.Mathlib.Omega.{arith}
 use lib.ListN.{length, take, drop, getD, length-drop, drop-of-length-le}
 use lib.Seq.{drop-cons, take-all}
-use borrow.Author.Tests.{eq-eqb, ne-eqb}
+use lib.Dec.{eqb}
 use Rattle.lists.specs.Lists.{any, member, distinct}
 
 module _ (l : List ℕ) (i : ℕ) where
-  pub member-here : (x : ℕ) → i < length l → x ≡ getD l i 0 → member x (drop i l) ≡ true
+  pub member-step : (x : ℕ) → i < length l → member x (drop i l) ≡ (eqb x (getD l i 0) || member x (drop (i + 1) l))
   unfolding member any
-  member-here x h e = rw (drop-cons l i 0 h, eq-eqb _ _ e)
-
-  pub member-past : (x : ℕ) → i < length l → (x ≡ getD l i 0 → ⊥) → member x (drop i l) ≡ member x (drop (i + 1) l)
-  unfolding member any
-  member-past x h e = rw (add-one i, drop-cons l i 0 h, ne-eqb _ _ e)
+  member-step x h = rw (add-one i, drop-cons l i 0 h)
 
   pub member-end : (x : ℕ) → length l ≤ i → member x (drop i l) ≡ false
   unfolding member any

@@ -7,7 +7,7 @@ use native.Mathlib.Omega.{arith}
 use native.Mathlib.Nat.{add-assoc}
 use native.Mathlib.Decide.{decLt}
 use lib.ListN.{length, take, drop, getD, length-append, length-take, length-drop, List·getD-append, List·getD-eq-default, length-replicate, getD-replicate}
-use lib.Seq.{getD-take, getD-drop, getD-append-add, ext-getD, length-take-le}
+use lib.Seq.{take-all, getD-take, getD-drop, getD-append-add, ext-getD, length-take-le}
 use Rattle.lists.specs.Lists.{part, splice, ff}
 
 module _ (l : List ℕ) (i : ℕ) (bs : List ℕ) (fits : i + length bs ≤ length l) where
@@ -50,6 +50,10 @@ getD-part l i n k h = getD-take n (drop i l) k 0 h ∙ getD-drop i l k 0
 pub length-part : (l : List ℕ) (i n : ℕ) → length (part l i n) ≡ min n (length l - i)
 unfolding part
 length-part l i n = length-take n (drop i l) ∙ ap (min n) (length-drop i l)
+
+pub whole-part : (l : List ℕ) (a m n : ℕ) → n ≡ m → part (part l a m) 0 n ≡ part l a m
+unfolding part
+whole-part l a m n e = take-all n (take m (drop a l)) (rw (length-take m (drop a l)) (omega arith))
 
 pub getD-beyond : (l : List ℕ) (i n k : ℕ) → n ≤ k → getD (part l i n) k 0 ≡ 0
 getD-beyond l i n k h = List·getD-eq-default (part l i n) 0 (omega (arith, length-part l i n))

@@ -2,14 +2,14 @@
 use Prim.Native.Nat.{ℕ, zero, suc, _+_, _-_, _≤_, _<_, max}
 use mathlib.Core.Path.{_≡_, refl, sym, ap, _∙_}
 use mathlib.Core.Bool.{Bool, true, false, true≢false}
-use mathlib.Core.List.{List, [], _∷_, _++_, map}
+use mathlib.Core.List.{List, [], _∷_, _++_, map, append-nil, append-assoc}
 use native.Mathlib.Omega.{arith}
 use native.Mathlib.Decide.{ℕ-discrete}
 use lib.ListN.{length, take, getD, length-append, List·getD-append}
 use lib.Seq.{getD-at, take-all, take-nil, take-append-le}
 use lib.Dec.{leb}
 use borrow.Author.Tests.{le-leb, lt-leb}
-use Rattle.lists.specs.Lists.{if_then_else_, row, allBelow, countBelow, maxBelow}
+use Rattle.lists.specs.Lists.{if_then_else_, row, allBelow, countBelow, maxBelow, concatMap}
 use Rattle.lists.proofs.Tests.{and-left, and-right, and-true}
 
 -- ---- rows
@@ -41,6 +41,11 @@ pub map-append : {A B : Type 0} (f : A → B) (xs ys : List A) → map f (xs ++ 
 map-append f [] ys = refl
 map-append f (x ∷ xs) ys = ap (λ l. f x ∷ l) (map-append f xs ys)
 
+pub concat-more : {A B : Type 0} (f : A → List B) (l : List A) (x : A) → concatMap f (l ++ (x ∷ [])) ≡ concatMap f l ++ f x
+unfolding concatMap
+concat-more f [] x = append-nil (f x)
+concat-more f (y ∷ l) x = rw (concat-more f l x) (sym (append-assoc (f y) (concatMap f l) (f x)))
+
 -- ---- tests below a bound
 
 pub all-below : (n : ℕ) (t : ℕ → Bool) → allBelow n t ≡ true → (k : ℕ) → k < n → t k ≡ true
@@ -56,6 +61,13 @@ pub below-all : (n : ℕ) (t : ℕ → Bool) → ((k : ℕ) → k < n → t k �
 unfolding allBelow
 below-all zero t h = refl
 below-all (suc n) t h = and-true (below-all n t (λ k hk. h k (omega arith))) (h n (omega arith))
+
+pub below-fails : (n : ℕ) (t : ℕ → Bool) (k : ℕ) → k < n → t k ≡ false → allBelow n t ≡ false
+below-fails n t k h e = go (allBelow n t) refl
+  where
+    go : (s : Bool) → allBelow n t ≡ s → allBelow n t ≡ false
+    go true q = absurd (true≢false (sym (all-below n t q k h) ∙ e))
+    go false q = q
 
 -- ---- counts below a bound
 

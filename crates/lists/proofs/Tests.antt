@@ -28,6 +28,12 @@ pub and-false : (t : Bool) → t && false ≡ false
 and-false true = refl
 and-false false = refl
 
+-- tests that are passed together
+pub same-truth : (s t : Bool) → (s ≡ true → t ≡ true) → (t ≡ true → s ≡ true) → s ≡ t
+same-truth true t h k = sym (h refl)
+same-truth false true h k = k refl
+same-truth false false h k = refl
+
 pub or-left : (s t : Bool) → s ≡ true → s || t ≡ true
 or-left s t h = rw h
 

@@ -13,8 +13,7 @@ use Rattle.model.specs.declared.Sizes.{Sizes}
 use Rattle.model.specs.Sizes.{pagesFor}
 use Rattle.model.specs.Stores.{pageBytes}
 use Rattle.model.proofs.Bounds.{pages-hold, pages-least}
-use Rattle.geometry.specs.Geometry.{Limits}
-use Rattle.geometry.proofs.Passed.{Products, products}
+use Rattle.geometry.proofs.Passed.{products}
 use Rattle.geometry.proofs.Places.{nth-inside}
 use Rattle.log.specs.Logs.{Fits}
 use Rattle.log.specs.declared.Log.{Log}

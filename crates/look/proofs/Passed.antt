@@ -14,7 +14,7 @@ use Rattle.model.specs.Sizes.{flashSize}
 use Rattle.model.specs.State.{State}
 use Rattle.model.specs.Calls.{firstFailed, lookTests, lookAnswer, answerByte}
 use Rattle.model.proofs.Calling.{first-passed}
-use Rattle.geometry.proofs.Passed.{Products, products, limits-hold}
+use Rattle.geometry.proofs.Passed.{products, limits-hold}
 use Rattle.geometry.proofs.Places.{page-below, page-data}
 
 -- the page lies in the lent flash

@@ -2,7 +2,7 @@
 use Prim.Native.Nat.{ℕ, zero, suc, _+_, _-_, _*_, _≤_, _<_}
 use mathlib.Core.Path.{_≡_}
 use mathlib.Core.Logic.{_⊎_, _≢_}
-use mathlib.Core.Bool.{Bool, true, false, _&&_}
+use mathlib.Core.Bool.{Bool, true, _&&_}
 use mathlib.Core.Option.{Option, none, some}
 use mathlib.Core.List.{List, [], _∷_, map}
 use lib.ListN.{length, take, getD}
@@ -15,8 +15,8 @@ use Rattle.model.specs.Stores.{Store, erase, apply, applyAll, tagOf, buc
 use Rattle.model.specs.Spare.{offset, extent}
 use Rattle.model.specs.Image.{epochOf, wellFormed, backOf, isWrite, isDirty, complete, endsLog, logBytes}
 use Rattle.model.specs.State.{State, holds, cacheOf, topEpoch, stateFits}
-use Rattle.model.specs.Calls.{Call, refusal, planOf, readBuffer}
-use Rattle.model.specs.Promise.{MayStand, feed}
+use Rattle.model.specs.Calls.{Call, refusal, planOf}
+use Rattle.model.specs.Promise.{feed}
 use Rattle.model.proofs.Views.{View, SafeAt}
 
 module _ (z : Sizes) where

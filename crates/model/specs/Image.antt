@@ -1,6 +1,6 @@
 -- Images made by the page rules, what a bucket is, and its complete logs.
 use Prim.Native.Nat.{ℕ, zero, suc, _+_, _-_, _*_}
-use mathlib.Core.Bool.{Bool, true, false, not, _&&_, _||_}
+use mathlib.Core.Bool.{Bool, not, _&&_, _||_}
 use mathlib.Core.List.{List, [], _∷_, map}
 use lib.Dec.{leb, ltb, eqb}
 use Rattle.lists.specs.Lists.{if_then_else_, every, within, below, allBelow, countBelow, keep, distinct, splice, part}

@@ -1,16 +1,16 @@
 -- Recover: which copies and Write buckets of an image are kept, what is written to the disk, and the state.
-use Prim.Native.Nat.{ℕ, zero, suc, _+_}
-use mathlib.Core.Bool.{Bool, true, false, not, _&&_, _||_}
+use Prim.Native.Nat.{ℕ, _+_}
+use mathlib.Core.Bool.{Bool, true, not, _&&_, _||_}
 use mathlib.Core.List.{List, [], _∷_, _++_, map}
 use lib.ListN.{length}
-use lib.Dec.{leb, ltb, eqb}
+use lib.Dec.{ltb, eqb}
 use Rattle.lists.specs.Lists.{if_then_else_, below, allBelow, head, empty, any, keep, member, concatMap, sortBy}
 use Rattle.model.specs.declared.Sizes.{Sizes}
 use Rattle.model.specs.declared.Entry.{Entry}
 use Rattle.model.specs.Sizes.{Device}
 use Rattle.model.specs.Stores.{Store, bucketBytes, diskBytes, unitStores}
 use Rattle.model.specs.Image.{used, epochOf, backOf, isWrite, isCopy, isDirty, complete, blanks, merge}
-use Rattle.model.specs.State.{State, entry, topEpoch}
+use Rattle.model.specs.State.{entry, topEpoch}
 use Rattle.model.specs.Steps.{Plan}
 
 module _ (z : Sizes) (d : Device) where

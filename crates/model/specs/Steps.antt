@@ -1,13 +1,11 @@
 -- Plans, and the steps that operations share: merged bytes, Erase step, Allocate, a whole copy, Evict.
 -- The bytes that a plan stores are those of chip and disk at the call's entry.
-use Prim.Native.Nat.{ℕ, zero, suc, _+_}
-use mathlib.Core.Bool.{Bool, true, false}
+use Prim.Native.Nat.{ℕ, _+_}
 use mathlib.Core.List.{List, [], _∷_, _++_}
 use lib.ListN.{length, drop}
 use Rattle.lists.specs.Lists.{if_then_else_, row, head, empty}
 use Rattle.model.specs.declared.Sizes.{Sizes}
-use Rattle.model.specs.declared.Entry.{Entry}
-use Rattle.model.specs.Sizes.{Device, bucketSize, pagesFor}
+use Rattle.model.specs.Sizes.{Device, pagesFor}
 use Rattle.model.specs.Stores.{Store, program, erase, bucketBytes, diskBytes, pageBytes, unitStores}
 use Rattle.model.specs.Spare.{dirtyKind, tagBytes}
 use Rattle.model.specs.Image.{merge}

@@ -2,8 +2,9 @@
 use fifo::Fifo;
 use state::State;
 ghost use mathlib.Core.Path.{_≡_};
-ghost use Prim.Native.Nat.{_≤_};
-ghost use lib.ListN.{length, take};
+ghost use mathlib.Core.Bool.{true};
+ghost use Prim.Native.Nat.{ℕ, _≤_, _<_};
+ghost use lib.ListN.{length, take, getD};
 ghost use Rattle.lists.specs.Lists.{all, allBelow, times};
 ghost use Rattle.model.specs.State.{queued, isBelow, onceIn, eachOnce};
 ghost use Rattle.fifo.specs.View.{listOf};
@@ -21,7 +22,11 @@ pub fn buckets_once(s: State) -> bool
     let list = queued(s);
     let n = list.used();
     let items = list.items;
-    all_below(items, n, c) & all_once(items, n, c)
+    if all_below(items, n, c) {
+        all_once(items, n, c)
+    } else {
+        false
+    }
 }
 
 // All cache buckets in queues, queue after queue.
@@ -51,34 +56,35 @@ fn all_below(items: [u8; 256], n: usize, c: usize) -> bool
     below
 }
 
+// How often each number stands among the first n, all below c.
+fn tally(items: [u8; 256], n: usize, c: usize) -> [u16; 256]
+    requires { ⌜ (n ≤ 256) × (c ≤ 256) ⌝ }
+    requires { ⌜ all (isBelow c) (take n items) ≡ true ⌝ }
+    ensures { λ r. ⌜ (length r ≡ 256) × ((x : ℕ) → x < 256 → getD r x 0 ≡ times x (take n items)) ⌝ }
+{
+    let mut counts = [0u16; 256];
+    let mut i = 0;
+    while i < n {
+        let x = items[i] as usize;
+        counts[x] = counts[x] + 1;
+        i += 1;
+    }
+    counts
+}
+
 // Each number below c stands once among the first n.
 fn all_once(items: [u8; 256], n: usize, c: usize) -> bool
-    requires { ⌜ n ≤ 256 ⌝ }
+    requires { ⌜ (n ≤ 256) × (c ≤ 256) ⌝ }
+    requires { ⌜ all (isBelow c) (take n items) ≡ true ⌝ }
     ensures { λ r. ⌜ r ≡ allBelow c (onceIn (take n items)) ⌝ }
 {
+    let counts = tally(items, n, c);
     let mut once = true;
     let mut x = 0;
     while x < c {
-        let count = times(items, n, x);
+        let count = counts[x];
         once = once & (count == 1);
         x += 1;
     }
     once
-}
-
-// How often x stands among the first n.
-fn times(items: [u8; 256], n: usize, x: usize) -> usize
-    requires { ⌜ n ≤ 256 ⌝ }
-    ensures { λ r. ⌜ r ≡ times x (take n items) ⌝ }
-{
-    let mut count = 0;
-    let mut i = 0;
-    while i < n {
-        let y = items[i] as usize;
-        i += 1;
-        if x == y {
-            count += 1;
-        }
-    }
-    count
 }

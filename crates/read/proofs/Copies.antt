@@ -15,26 +15,16 @@ use Rattle.queue.proofs.Without.{without-length}
 use Rattle.geometry.specs.Geometry.{Lent}
 use Rattle.meter.specs.Run.{Run}
 use Rattle.steps.specs.Turns.{Progress, after}
-use Rattle.steps.proofs.Inside.{cache-inside}
-use Rattle.steps.proofs.Kept.{chip-some}
 use Rattle.steps.proofs.Turns.{after-then}
 use Rattle.copying.specs.Fresh.{Copies}
 use Rattle.gather.specs.Sources.{Sources}
+use Rattle.gather.proofs.Gathered.{sources-of}
 use Rattle.oldest.specs.Drops.{Drops}
 use Rattle.oldest.proofs.Dropped.{drops-ready, Dropped, dropped}
 use Rattle.read.specs.Reads.{Reads, copyOf}
 
 pub sources : {s : State} {b off n : ℕ} {flash spare disk : List ℕ} → Reads s b off n spare → Lent (s .sizes) flash spare disk → Sources s b flash spare disk
-sources {s} {b} r l =
-    let o = r .drops .orderly in
-    record {
-      limits = o .limits;
-      lent = l;
-      well-formed = r .well-formed;
-      back = r .back;
-      read = cache-inside (s .sizes .c) b (s .reads) (o .reads) (chip-some o);
-      write = cache-inside (s .sizes .c) b (s .writes) (o .writes) (chip-some o);
-    }
+sources r l = sources-of (r .drops .orderly) (r .well-formed) (r .back) l
 
 -- over the old read bucket
 pub hit-copies : {s : State} {b n : ℕ} → Drops s → s .next ≤ 4294967294 → holds b (s .reads) ≡ true → n ≡ bucketSize (s .sizes) → Copies s b n

@@ -1,6 +1,6 @@
 -- What numbers 1 to 7 say to a read once they are passed.
 use Prim.Native.Nat.{ℕ, _≤_}
-use mathlib.Core.Path.{_≡_, refl, _∙_}
+use mathlib.Core.Path.{_≡_, refl}
 use mathlib.Core.Bool.{true}
 use mathlib.Core.List.{List, [], _∷_}
 use native.Mathlib.Omega.{arith}
@@ -10,9 +10,8 @@ use Rattle.model.specs.declared.Entry.{Entry}
 use Rattle.model.specs.Sizes.{Device}
 use Rattle.model.specs.State.{State, isOf, holds}
 use Rattle.model.proofs.Calling.{Range}
-use Rattle.rules.proofs.SameSpare.{same-well-formed}
 use Rattle.queue.specs.View.{noEntry}
-use Rattle.checks.proofs.Opens.{Open, open-queued, open-below, open-bounded}
+use Rattle.checks.proofs.Opens.{Open, open-queued, open-orderly, open-formed}
 use Rattle.checks.proofs.Backs.{read-back}
 use Rattle.read.specs.Reads.{Reads}
 
@@ -24,24 +23,16 @@ holds-first (e ∷ l) h = rw (eq-eqb (e .back) (e .back) refl)
 
 pub reads : {s : State} {d : Device} {b off n : ℕ} → Open s d → Range (s .sizes) b off n → Reads s b off n (d .spare)
 reads {s} {d} o r =
-    let below = open-below o in
     let queued = open-queued o in
     record {
       drops = record {
-        orderly = record {
-          limits = o .image .limits;
-          bounded = open-bounded o;
-          reads = below .reads;
-          writes = below .writes;
-          gc = below .gc;
-          free = below .free;
-        };
+        orderly = open-orderly o;
         total = queued .total;
         reads = queued .reads;
         writes = queued .writes;
         back = λ h. read-back o (getD (s .reads) 0 noEntry .back) (holds-first (s .reads) h);
       };
-      well-formed = same-well-formed (s .sizes) d ∙ o .image .formed;
+      well-formed = open-formed o;
       back = r .b-in;
       range = r .range-in;
     }

@@ -2,27 +2,23 @@
 use Prim.Native.Nat.{ℕ, _+_, _≤_, _<_}
 use mathlib.Core.Path.{_≡_, refl, sym, ap, _∙_}
 use mathlib.Core.Bool.{true}
-use mathlib.Core.List.{List, []}
+use mathlib.Core.List.{List}
 use native.Mathlib.Omega.{arith}
 use lib.ListN.{length}
 use Rattle.lists.specs.Lists.{row, keep, below, member, concatMap}
+use Rattle.lists.proofs.Rows.{concat-more}
 use Rattle.model.specs.declared.Sizes.{Sizes}
-use Rattle.model.specs.Sizes.{Device, bucketSize, flashSize, spareSize, diskSize}
-use Rattle.model.specs.Stores.{Store, diskBytes, unitStores}
+use Rattle.model.specs.Sizes.{Device, bucketSize}
+use Rattle.model.specs.Stores.{Store, diskBytes}
 use Rattle.model.specs.Recover.{isRescued, rescued, rescueStores}
 use Rattle.model.proofs.Frames.{Lengths}
-use Rattle.geometry.specs.Geometry.{Lent}
 use Rattle.meter.specs.declared.Meter.{Meter}
 use Rattle.meter.specs.Run.{Run, runAll}
 use Rattle.meter.proofs.Runs.{run-append}
 use Rattle.units.proofs.Kept.{Kept, units-kept}
 use Rattle.order.specs.Order.{nextOf}
 use Rattle.order.proofs.Next.{next, next-passes, next-kept, keep-more}
-use Rattle.rescue.proofs.Rescues.{concat-more, stores-same}
-
-pub lengths-of : {z : Sizes} {d : Device} → Lent z (d .flash) (d .spare) (d .disk) → Lengths z d
-unfolding flashSize spareSize diskSize
-lengths-of l = record { flash-is = l .flash-length; spare-is = l .spare-length; disk-is = l .disk-length }
+use Rattle.rescue.proofs.Rescues.{stores-same}
 
 -- from each rescued one to the next, where l has them all
 module _ (z : Sizes) (d : Device) (l : List ℕ) (same : (x : ℕ) → x < z .b → isRescued z d x ≡ member x l) (from : ℕ) {r : ℕ} (e : r ≡ nextOf from (z .b) l) where

@@ -1,22 +1,19 @@
 -- The rescued back-end buckets one after another, and what earlier ones leave of the bytes of later ones.
-use Prim.Native.Nat.{ℕ, zero, suc, _+_, _≤_, _<_}
+use Prim.Native.Nat.{ℕ, _<_}
 use mathlib.Core.Path.{_≡_, refl, sym, ap, _∙_}
 use mathlib.Core.Bool.{Bool, true, false, _||_}
-use mathlib.Core.List.{List, [], _∷_, _++_, map, append-nil, append-assoc}
-use native.Mathlib.Omega.{arith}
+use mathlib.Core.List.{List, [], _∷_, _++_, map}
 use native.Mathlib.Decide.{ℕ-discrete}
-use lib.ListN.{length}
 use lib.Dec.{eqb}
 use borrow.Author.Tests.{eq-eqb, ne-eqb}
-use Rattle.lists.specs.Lists.{if_then_else_, any, keep, below, member, concatMap, head, empty}
+use Rattle.lists.specs.Lists.{if_then_else_, any, keep, member, head, empty}
 use Rattle.model.specs.declared.Sizes.{Sizes}
 use Rattle.model.specs.Sizes.{Device}
-use Rattle.model.specs.Stores.{Store, tagOf, bucketBytes, diskBytes}
-use Rattle.model.specs.Image.{used, epochOf, backOf, isWrite, isCopy, isDirty, complete, endsLog, logBytes, mergeTo, merge}
-use Rattle.model.specs.Recover.{buckets, byEpoch, isNewer, amongNewest, newest, isWriteOf, isCopyOf, givesWay, isChosen, isChosenOf, chosen, isNoOther, isOnly, keptWrites, isDroppedWrite, flushed, isRemaining, keptCopies, isDroppedCopy, mergeAll, recovered, isUnsavedOf, unsaved, isRescued, rescued, rescueStores}
+use Rattle.model.specs.Stores.{tagOf, bucketBytes, diskBytes}
+use Rattle.model.specs.Image.{used, epochOf, backOf, isWrite, isCopy, isDirty, complete}
+use Rattle.model.specs.Recover.{buckets, byEpoch, isNewer, amongNewest, newest, isWriteOf, isCopyOf, givesWay, isChosen, chosen, isNoOther, isOnly, keptWrites, isDroppedWrite, flushed, isRemaining, keptCopies, isDroppedCopy, mergeAll, recovered, isUnsavedOf, unsaved, isRescued, rescued, rescueStores}
 use Rattle.image.specs.Chip.{spareOnly}
 use Rattle.order.specs.Order.{nextOf}
-use Rattle.classes.specs.Classes.{isOf}
 use Rattle.classes.proofs.Choices.{flushed-of, unsaved-of}
 use Rattle.merge.specs.Window.{chip}
 use Rattle.rescued.proofs.Bytes.{same-merge-all, same-chosen, same-flushed, same-logs}
@@ -45,13 +42,6 @@ member-map f x (y ∷ l) = rw (turned (ℕ-discrete x (f y)), member-map f x l)
     turned : Dec (x ≡ f y) → eqb x (f y) ≡ eqb (f y) x
     turned (yes e) = eq-eqb x (f y) e ∙ sym (eq-eqb (f y) x (sym e))
     turned (no ne) = ne-eqb x (f y) ne ∙ sym (ne-eqb (f y) x (λ e. ne (sym e)))
-
--- ---- the stores of one more
-
-pub concat-more : {A B : Type 0} (f : A → List B) (l : List A) (x : A) → concatMap f (l ++ (x ∷ [])) ≡ concatMap f l ++ f x
-unfolding concatMap
-concat-more f [] x = append-nil (f x)
-concat-more f (y ∷ l) x = rw (concat-more f l x) (sym (append-assoc (f y) (concatMap f l) (f x)))
 
 module _ (z : Sizes) (d : Device) where
   -- the rescued ones, by the lists of the dropped Write buckets and of the unsaved copies

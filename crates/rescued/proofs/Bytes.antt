@@ -1,14 +1,13 @@
 -- The rescued bytes, by what the spare area says and by where the base lies.
-use Prim.Native.Nat.{ℕ, _+_, _-_, _*_, _≤_, _<_}
+use Prim.Native.Nat.{ℕ, _+_, _*_, _≤_, _<_}
 use mathlib.Core.Path.{_≡_, refl, sym, ap, _∙_}
 use mathlib.Core.Bool.{Bool, true, false, not, _&&_}
 use mathlib.Core.List.{List, [], _∷_}
 use native.Mathlib.Omega.{arith}
-use lib.ListN.{length, take, drop, getD, length-take}
-use lib.Seq.{take-all}
+use lib.ListN.{length, take, drop, getD}
 use lib.Dec.{eqb}
 use borrow.Author.Tests.{ltb-true}
-use Rattle.lists.specs.Lists.{if_then_else_, all, any, keep, head, empty, times, sortBy, part}
+use Rattle.lists.specs.Lists.{if_then_else_, all, any, keep, head, sortBy, part}
 use Rattle.lists.proofs.Tests.{and-left}
 use Rattle.lists.proofs.Counts.{all-in, in-all}
 use Rattle.lists.proofs.Orders.{times-sort}
@@ -53,12 +52,6 @@ copy-within z d b = buckets-within z d (isChosenOf z d b)
 pub sorted-within : (z : Sizes) (d : Device) (l : List ℕ) → Within z l → Within z (byEpoch z d l)
 unfolding byEpoch
 sorted-within z d l h = in-all (isBelow (z .c)) (sortBy (epochOf z d) l) (λ x q. all-in (isBelow (z .c)) l h x (omega (arith, times-sort (epochOf z d) x l)))
-
--- ---- parts
-
-pub whole-part : (l : List ℕ) (a m n : ℕ) → n ≡ m → part (part l a m) 0 n ≡ part l a m
-unfolding part
-whole-part l a m n e = take-all n (take m (drop a l)) (rw (length-take m (drop a l)) (omega arith))
 
 -- ---- merges
 

@@ -4,10 +4,10 @@ use model::Sizes;
 use spare::Fields;
 use spare::Seen;
 ghost use mathlib.Core.Path.{_≡_};
-ghost use mathlib.Core.Bool.{false};
+ghost use mathlib.Core.Bool.{true, false, _&&_};
 ghost use mathlib.Core.List.{List, map};
-ghost use Prim.Native.Nat.{ℕ, _<_};
-ghost use Rattle.lists.specs.Lists.{allBelow, member, distinct, keep, below};
+ghost use Prim.Native.Nat.{ℕ, _≤_, _<_};
+ghost use Rattle.lists.specs.Lists.{all, allBelow, member, distinct, keep, below};
 ghost use Rattle.model.specs.Spare.{blank, zeros};
 ghost use Rattle.model.specs.Stores.{tagOf};
 ghost use Rattle.model.specs.Image.{continues, follows, fieldsFit, pageFits, bucketFits, used, epochOf, wellFormed};
@@ -15,6 +15,7 @@ ghost use Rattle.geometry.specs.Geometry.{Limits};
 ghost use Rattle.spare.specs.Fields.{fields, seen};
 ghost use Rattle.spare.specs.declared.Seen.the-variants.{Programmed};
 ghost use Rattle.image.specs.Chip.{Chip, spareOnly};
+ghost use Rattle.rules.specs.Pages.{Behind, Used, isErased, spareFrom};
 
 // The rules for one programmed page.
 fn fields_fit(z: Sizes, f: Fields, zeroed: bool) -> bool
@@ -52,51 +53,123 @@ fn follows(before: Fields, f: Fields) -> bool
     bucket & continues(before, f)
 }
 
-// The rules for a programmed page where it stands.
-fn programmed_fits(z: Sizes, c: usize, k: usize, f: Fields, spare: &[u8]) -> bool
+// The rules for a page behind another that fits. One that continues a log shares its fields with that page, and they are not tested again.
+fn later_fits(z: Sizes, before: Fields, f: Fields, zeroed: bool) -> bool
+    requires { ⌜ Limits z ⌝ }
+    ensures { λ r. ⌜ ((b tag : List ℕ) → blank b ≡ false → fieldsFit z b ≡ true → fields b ≡ before → fields tag ≡ f → zeros tag ≡ zeroed → r ≡ (fieldsFit z tag && follows b tag)) ⌝ }
+{
+    let follow = follows(before, f);
+    if f.ordinal == 0 {
+        return fields_fit(z, f, zeroed) & follow;
+    }
+    zeroed & (f.ordinal < f.pages) & follow
+}
+
+// The rules for a programmed page where it stands, behind one that fits.
+fn programmed_fits(z: Sizes, c: usize, k: usize, f: Fields, before: Seen, spare: &[u8]) -> bool
     requires { ⌜ Chip z (now spare) ⌝ }
     requires { ⌜ c < z .c ⌝ }
     requires { ⌜ k < z .p ⌝ }
     requires { ⌜ seen (tagOf z (spareOnly (now spare)) c k) ≡ Programmed f ⌝ }
+    requires { ⌜ Behind z (spareOnly (now spare)) c k before ⌝ }
     ensures { λ r. ⌜ r ≡ pageFits z (spareOnly (now (spare .entry))) c k ⌝ }
 {
     let zeroed = spare::zeroed(spare, c * z.p + k);
-    let fit = fields_fit(z, f, zeroed);
     if k == 0 {
-        return fit & (f.ordinal == 0);
+        return fields_fit(z, f, zeroed) & (f.ordinal == 0);
     }
-    let before = image::look(z, c, k - 1, spare);
     match before {
         Seen::Blank => false,
-        Seen::Programmed(b) => fit & follows(b, f),
+        Seen::Programmed(b) => later_fits(z, b, f, zeroed),
     }
 }
 
-fn page_fits(z: Sizes, c: usize, k: usize, spare: &[u8]) -> bool
+fn page_fits(z: Sizes, c: usize, k: usize, page: Seen, before: Seen, spare: &[u8]) -> bool
     requires { ⌜ Chip z (now spare) ⌝ }
     requires { ⌜ c < z .c ⌝ }
     requires { ⌜ k < z .p ⌝ }
+    requires { ⌜ page ≡ seen (tagOf z (spareOnly (now spare)) c k) ⌝ }
+    requires { ⌜ Behind z (spareOnly (now spare)) c k before ⌝ }
     ensures { λ r. ⌜ r ≡ pageFits z (spareOnly (now (spare .entry))) c k ⌝ }
 {
-    let page = image::look(z, c, k, spare);
     match page {
         Seen::Blank => true,
-        Seen::Programmed(f) => programmed_fits(z, c, k, f, spare),
+        Seen::Programmed(f) => programmed_fits(z, c, k, f, before, spare),
     }
 }
 
+// The first n pages; each is looked at once.
+fn pages_fit(z: Sizes, c: usize, n: usize, spare: &[u8]) -> bool
+    requires { ⌜ Chip z (now spare) ⌝ }
+    requires { ⌜ c < z .c ⌝ }
+    requires { ⌜ n ≤ z .p ⌝ }
+    ensures { λ r. ⌜ r ≡ allBelow n (pageFits z (spareOnly (now (spare .entry))) c) ⌝ }
+{
+    let mut before = Seen::Blank;
+    let mut k = 0;
+    while k < n {
+        let page = image::look(z, c, k, spare);
+        if !page_fits(z, c, k, page, before, spare) {
+            return false;
+        }
+        before = page;
+        k += 1;
+    }
+    true
+}
+
+// How many pages stand before the first blank one.
+fn used_pages(z: Sizes, c: usize, spare: &[u8]) -> usize
+    requires { ⌜ Chip z (now spare) ⌝ }
+    requires { ⌜ c < z .c ⌝ }
+    ensures { λ r. ⌜ Used z (spareOnly (now (spare .entry))) c r ⌝ }
+{
+    let mut k = 0;
+    while k < z.p {
+        if image::page_blank(z, c, k, spare) {
+            return k;
+        }
+        k += 1;
+    }
+    k
+}
+
+// Whether all bytes are FF. With no way out at the first that is not, the loop takes many bytes at a time.
+fn erased(bytes: &[u8]) -> bool
+    ensures { λ r. ⌜ r ≡ all isErased (now (bytes .entry)) ⌝ }
+{
+    let mut erased = true;
+    let mut i = 0;
+    while i < bytes.len() {
+        erased = erased & (bytes[i] == 255);
+        i += 1;
+    }
+    erased
+}
+
+// Whether the spare bytes of the bucket's pages from k on are all FF.
+fn erased_from(z: Sizes, c: usize, k: usize, spare: &[u8]) -> bool
+    requires { ⌜ Chip z (now spare) ⌝ }
+    requires { ⌜ c < z .c ⌝ }
+    requires { ⌜ k ≤ z .p ⌝ }
+    ensures { λ r. ⌜ r ≡ all isErased (spareFrom z (now (spare .entry)) c k) ⌝ }
+{
+    let start = (c * z.p + k) * 16;
+    let end = (c * z.p + z.p) * 16;
+    erased(&spare[start..end])
+}
+
+// Blank pages come only at the end: behind the first of them all bytes are FF.
 fn bucket_fits(z: Sizes, c: usize, spare: &[u8]) -> bool
     requires { ⌜ Chip z (now spare) ⌝ }
     requires { ⌜ c < z .c ⌝ }
     ensures { λ r. ⌜ r ≡ bucketFits z (spareOnly (now (spare .entry))) c ⌝ }
 {
-    let mut fit = true;
-    let mut k = 0;
-    while k < z.p {
-        fit = fit & page_fits(z, c, k, spare);
-        k += 1;
+    let used = used_pages(z, c, spare);
+    if !erased_from(z, c, used, spare) {
+        return false;
     }
-    fit
+    pages_fit(z, c, used, spare)
 }
 
 fn buckets_fit(z: Sizes, spare: &[u8]) -> bool
@@ -112,17 +185,17 @@ fn buckets_fit(z: Sizes, spare: &[u8]) -> bool
     fit
 }
 
+// All are compared, with no way out at the first: such a loop becomes few instructions.
 fn occurs(x: u32, items: &[u32]) -> bool
     ensures { λ r. ⌜ r ≡ member x (now (items .entry)) ⌝ }
 {
+    let mut found = false;
     let mut i = 0;
     while i < items.len() {
-        if x == items[i] {
-            return true;
-        }
+        found = found | (x == items[i]);
         i += 1;
     }
-    false
+    found
 }
 
 fn all_differ(items: &[u32]) -> bool

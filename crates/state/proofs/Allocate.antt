@@ -7,7 +7,7 @@ use mathlib.Core.List.{List, [], _∷_, _++_}
 use native.Mathlib.Omega.{arith}
 use lib.ListN.{length, length-append, length-map}
 use borrow.Author.Tests.{eqb-true, leb-true, ltb-true, ne-eqb}
-use Rattle.lists.specs.Lists.{if_then_else_, empty, head, all}
+use Rattle.lists.specs.Lists.{empty, head, all}
 use Rattle.lists.proofs.Tests.{every-at, true-or-false}
 use Rattle.lists.proofs.Arrays.{empty-length, all-at}
 use Rattle.model.specs.Sizes.{Device, limits}
@@ -16,7 +16,6 @@ use Rattle.model.specs.Steps.{makeRoom, eraseStep, nothing}
 use Rattle.geometry.proofs.Passed.{limits-hold}
 use Rattle.state.specs.View.{Bounded}
 use Rattle.state.proofs.Bounds.{not-empty}
-use Rattle.state.proofs.Below.{queues-below}
 
 pub record Queued (s : State) : Type 0 where
   pub total : length (s .reads) + length (s .writes) + length (s .gc) + length (s .free) ≡ s .sizes .c
@@ -73,14 +72,4 @@ module _ (s : State) where
         ⊎-elim
         (λ e. rw (some-gc e, e) (empty-length (s .free ++ (head (s .gc) ∷ [])) ∙ ne-eqb (length (s .free ++ (head (s .gc) ∷ []))) 0 (λ h. omega (arith, simp length-append at h))))
         (λ e. rw e e)
-        (true-or-false (empty (s .free)))
-
-    -- the bucket that Allocate takes is one of the chip's
-    pub allocated-below : head (makeRoom s .state .free) < s .sizes .c
-    unfolding makeRoom eraseStep nothing moved
-    allocated-below =
-        let q = queues-below s (queues-hold d fits .below) in
-        ⊎-elim
-        (λ e. rw (some-gc e, e) (moved-head (s .free) e (head-below (s .sizes .c) (s .gc) (q .gc) (some-gc e))))
-        (λ e. rw e (head-below (s .sizes .c) (s .free) (q .free) e))
         (true-or-false (empty (s .free)))

@@ -1,19 +1,17 @@
 -- The struct has places for each state that the moves reach.
 use Prim.Native.Nat.{ℕ, _≤_, _<_}
 use mathlib.Core.Path.{_≡_}
-use mathlib.Core.Bool.{true, false, true≢false}
+use mathlib.Core.Bool.{false, true≢false}
 use mathlib.Core.Logic.{⊎-elim}
 use mathlib.Core.List.{List, [], _∷_}
 use native.Mathlib.Omega.{arith}
-use lib.ListN.{length, length-append, length-drop, length-map}
+use lib.ListN.{length, length-append, length-drop}
 use Rattle.lists.specs.Lists.{empty}
 use Rattle.lists.proofs.Tests.{true-or-false}
 use Rattle.queue.proofs.Without.{without-length}
-use Rattle.model.specs.declared.Sizes.{Sizes}
-use Rattle.model.specs.Sizes.{Device}
 use Rattle.model.specs.State.{State, moved, without}
 use Rattle.model.specs.Steps.{eraseStep, makeRoom, nothing, taken, dropWrite, takeCopy}
-use Rattle.model.specs.Operations.{takeWrite, touch}
+use Rattle.model.specs.Operations.{takeWrite}
 use Rattle.state.specs.View.{Bounded, withoutOldest}
 
 pub gc-fits : {s : State} → Bounded s → length (s .gc) ≤ 256
@@ -56,17 +54,6 @@ module _ (s : State) (b : Bounded s) where
     total = rw length-append (omega (arith, without-length k (s .writes)));
     next = b .next;
   }
-
-  pub touch-bounded : (z : Sizes) (d : Device) (k : ℕ) → Bounded (touch z d k s)
-  unfolding touch moved
-  touch-bounded z d k =
-      let e = without-length k (s .reads) in
-      record {
-        reads = simp (length-append, length-map) (omega arith);
-        writes = b .writes;
-        total = simp (length-append, length-map) (omega arith);
-        next = b .next;
-      }
 
   pub oldest-bounded : empty (s .reads) ≡ false → Bounded (withoutOldest s)
   unfolding withoutOldest moved

@@ -5,7 +5,6 @@ use model::Sizes;
 use queue::Queue;
 ghost use mathlib.Core.Path.{_≡_};
 ghost use mathlib.Core.List.{_++_, map};
-ghost use Prim.Native.Nat.{ℕ};
 ghost use Rattle.lists.specs.Arrays.{joined};
 ghost use Rattle.model.specs.declared.Sizes.{Sizes};
 ghost use Rattle.model.specs.Sizes.{Device};

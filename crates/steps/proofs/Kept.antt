@@ -1,22 +1,19 @@
 -- Steps leave the state orderly, and Allocate finds a bucket again.
-use Prim.Native.Nat.{ℕ, _+_, _≤_, _<_}
-use mathlib.Core.Path.{_≡_, refl, sym, ap, _∙_}
-use mathlib.Core.Bool.{Bool, true, false}
+use Prim.Native.Nat.{ℕ, _<_}
+use mathlib.Core.Path.{_≡_, refl, sym, _∙_}
+use mathlib.Core.Bool.{true, false}
 use mathlib.Core.Logic.{_⊎_, inl, inr}
 use mathlib.Core.List.{List, [], _∷_, _++_}
 use native.Mathlib.Omega.{arith}
-use lib.ListN.{length, drop, length-append}
+use lib.ListN.{length, length-append}
 use borrow.Author.Tests.{eqb-true, ne-eqb}
-use Rattle.lists.specs.Lists.{if_then_else_, empty, head}
+use Rattle.lists.specs.Lists.{empty, head}
 use Rattle.lists.proofs.Tests.{true-or-false}
 use Rattle.lists.proofs.Arrays.{empty-length}
 use Rattle.model.specs.Stores.{Store, erase}
-use Rattle.model.specs.State.{State, moved, entry, holds, cacheOf, cachesOf, without}
+use Rattle.model.specs.State.{State, moved, entry, holds, cachesOf, without}
 use Rattle.model.specs.Steps.{makeRoom, eraseStep, nothing, taken, dropWrite, takeCopy}
-use Rattle.geometry.specs.Geometry.{Limits}
-use Rattle.queue.proofs.Without.{without-length}
-use Rattle.state.specs.View.{Bounded}
-use Rattle.state.proofs.Bounds.{not-empty, room-bounded, drop-write-bounded, take-copy-bounded}
+use Rattle.state.proofs.Bounds.{room-bounded, drop-write-bounded, take-copy-bounded}
 use Rattle.state.proofs.Allocate.{head-below}
 use Rattle.steps.specs.Ready.{Orderly, Ready}
 use Rattle.steps.proofs.Inside.{both-inside, rest-inside, one-inside, joined-inside, caches-inside, others-inside}

@@ -3,9 +3,9 @@ use mathlib.Core.Path.{_≡_, ap}
 use Rattle.model.specs.declared.Sizes.{Sizes}
 use Rattle.model.specs.State.{State}
 use Rattle.model.specs.Steps.{Plan, _then_}
-use Rattle.meter.specs.Run.{Run, runAll}
+use Rattle.meter.specs.Run.{Run}
 use Rattle.meter.proofs.Runs.{run-append}
-use Rattle.steps.specs.Turns.{Progress, after}
+use Rattle.steps.specs.Turns.{after}
 
 pub after-then : (z : Sizes) (p : Plan) (f : State → Plan) (r : Run) → after z (p then f) r ≡ after z (f (after z p r .state)) (after z p r .run)
 unfolding after _then_

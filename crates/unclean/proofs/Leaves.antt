@@ -3,7 +3,6 @@ use Prim.Native.Nat.{ℕ, _+_, _≤_}
 use mathlib.Core.Path.{_≡_, refl}
 use native.Mathlib.Omega.{arith}
 use lib.ListN.{length, length-append, length-map}
-use Rattle.lists.specs.Lists.{keep, sortBy}
 use Rattle.lists.proofs.Arrays.{keep-length}
 use Rattle.lists.proofs.Orders.{length-sort}
 use Rattle.model.specs.declared.Sizes.{Sizes}

@@ -1,6 +1,6 @@
 -- The units of a back-end bucket, all made or cut short, leave the chip and every other back-end bucket as they were.
 use Prim.Native.Nat.{ℕ, zero, suc, _+_, _*_, _≤_, _<_}
-use mathlib.Core.Path.{_≡_, refl, sym, ap, _∙_}
+use mathlib.Core.Path.{_≡_, refl, _∙_}
 use mathlib.Core.Logic.{_≢_, ⊎-elim}
 use mathlib.Core.List.{List, [], _∷_}
 use native.Mathlib.Omega.{arith}
@@ -11,8 +11,8 @@ use Rattle.lists.proofs.Tests.{true-or-false}
 use Rattle.lists.proofs.Parts.{length-part-fits}
 use Rattle.model.specs.declared.Sizes.{Sizes}
 use Rattle.model.specs.Sizes.{Device, bucketSize}
-use Rattle.model.specs.Stores.{Store, unit, apply, diskBytes, unitStore, unitStores}
-use Rattle.model.proofs.Frames.{Lengths, Fits, row-fits, place-fits, lengths-kept, disk-other}
+use Rattle.model.specs.Stores.{unit, apply, diskBytes, unitStore, unitStores}
+use Rattle.model.proofs.Frames.{Lengths, row-fits, place-fits, lengths-kept, disk-other}
 use Rattle.meter.specs.Run.{Run, step, runAll}
 use Rattle.meter.proofs.Runs.{run-append}
 

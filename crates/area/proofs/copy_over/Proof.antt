@@ -7,8 +7,6 @@ use lib.Seq.{take-all}
 use Rattle.lists.proofs.Lent.{copy-more}
 use Rattle.area.proofs.copy_over.Statement.{statement}
 use Rattle.area.proofs.copy_over.Tie as tie
-use Rattle.area.proofs.copy_over.Reads as reads
-use Rattle.area.proofs.copy_over.Lts as lts
 
 abbrev Inv-loop : tie.InvT-loop
 Inv-loop area₀ source i₀ area i = (i ≤ length source) × (length area ≡ length area₀) × (area ≡ take i source ++ drop i area₀)

@@ -6,8 +6,6 @@ use lib.ListN.{length, drop, replicate, length-set, drop-of-length-le}
 use borrow.Author.Fill.{fill-more}
 use Rattle.area.proofs.fill.Statement.{statement}
 use Rattle.area.proofs.fill.Tie as tie
-use Rattle.area.proofs.fill.Reads as reads
-use Rattle.area.proofs.fill.Lts as lts
 
 abbrev Inv-loop : tie.InvT-loop
 Inv-loop area₀ b i₀ area i = (i ≤ length area₀) × (length area ≡ length area₀) × (area ≡ replicate i b ++ drop i area₀)

@@ -6,9 +6,6 @@ use native.Mathlib.Omega.{arith}
 use Prim.Native.Nat.{ℕ}
 use Rattle.area.proofs.fill_at.Statement.{statement}
 use Rattle.area.proofs.fill_at.Tie as tie
-use Rattle.area.proofs.fill_at.Reads as reads
-use Rattle.area.proofs.fill_at.Lts as lts
-use Rattle.area.proofs.fill.Reads as fill-reads
 
 add-end : tie.Need-add-end
 add-end c = search needs

@@ -4,9 +4,6 @@ use lib.ListN.{length}
 use Rattle.lists.proofs.Lent.{put-back}
 use Rattle.area.proofs.write_at.Statement.{statement}
 use Rattle.area.proofs.write_at.Tie as tie
-use Rattle.area.proofs.write_at.Reads as reads
-use Rattle.area.proofs.write_at.Lts as lts
-use Rattle.area.proofs.copy_over.Reads as copy-over-reads
 
 add-end : tie.Need-add-end
 add-end c = search needs

@@ -45,7 +45,7 @@ returns-3 c =
 state-fits-requires : tie.Need-state-fits-requires
 state-fits-requires c κs =
     let a = c .before .before .before .before .before .before .before .before .before .args in
-    chip-opens (a .s .sizes) (device (a .flash .now) (a .spare .now) (a .disk .now)) (sym (c .before .before .before .before .before .lent-refusal .ensures) ∙ c .before .before .before .before .if1 .left)
+    (chip-opens (a .s .sizes) (device (a .flash .now) (a .spare .now) (a .disk .now)) (sym (c .before .before .before .before .before .lent-refusal .ensures) ∙ c .before .before .before .before .if1 .left), sym (c .before .well-formed .ensures) ∙ not-false (c .before .well-formed .result) (c .if3 .left))
 
 returns-4 : tie.Need-returns-4
 returns-4 c =

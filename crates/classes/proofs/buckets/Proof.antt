@@ -3,14 +3,10 @@ use Rattle.classes.specs.Classes.{isKind}
 use Rattle.model.specs.Recover.{buckets}
 use Rattle.lists.specs.Lists.{keep}
 use Rattle.image.specs.Chip.{spareOnly}
-use mathlib.Core.Path.{_≡_, ap, _∙_}
+use mathlib.Core.Path.{ap, _∙_}
 use borrow.Author.Needs.{needs}
 use Rattle.classes.proofs.buckets.Statement.{statement}
 use Rattle.classes.proofs.buckets.Tie as tie
-use Rattle.classes.proofs.buckets.Reads as reads
-use Rattle.classes.proofs.buckets.Lts as lts
-use Rattle.classes.proofs.every_bucket.Reads as every-bucket-reads
-use Rattle.classes.proofs.selected.Reads as selected-reads
 
 -- src/lib.rt:218:9
 every-bucket-requires : tie.Need-every-bucket-requires

@@ -3,14 +3,10 @@ use Rattle.model.specs.Recover.{isChosen, isRemaining, isDroppedWrite, isDroppe
 use Rattle.model.specs.Image.{isCopy, isDirty}
 use Rattle.lists.specs.Lists.{keep}
 use Rattle.image.specs.Chip.{spareOnly}
-use mathlib.Core.Path.{_≡_, ap, _∙_}
+use mathlib.Core.Path.{ap, _∙_}
 use borrow.Author.Needs.{needs}
 use Rattle.classes.proofs.copy_classes.Statement.{statement}
 use Rattle.classes.proofs.copy_classes.Tie as tie
-use Rattle.classes.proofs.copy_classes.Reads as reads
-use Rattle.classes.proofs.copy_classes.Lts as lts
-use Rattle.classes.proofs.buckets.Reads as buckets-reads
-use Rattle.classes.proofs.selected.Reads as selected-reads
 
 -- src/lib.rt:239:9
 buckets-requires : tie.Need-buckets-requires

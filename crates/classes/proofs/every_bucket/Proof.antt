@@ -7,14 +7,10 @@ use lib.ListN.{length, length-append}
 use mathlib.Core.List.{_∷_, [], _++_}
 use borrow.Author.Needs.{needs}
 use native.Mathlib.Omega.{arith}
-use Prim.Native.Nat.{_-_, _≤_, _+_}
-use mathlib.Core.Path.{_≡_, refl, sym, _∙_, ap}
+use Prim.Native.Nat.{_-_, _≤_}
+use mathlib.Core.Path.{_≡_, ap}
 use Rattle.classes.proofs.every_bucket.Statement.{statement}
 use Rattle.classes.proofs.every_bucket.Tie as tie
-use Rattle.classes.proofs.every_bucket.Reads as reads
-use Rattle.classes.proofs.every_bucket.Lts as lts
-use Rattle.fifo.proofs.Fifo.empty.Reads as empty-reads
-use Rattle.fifo.proofs.Fifo.push.Reads as push-reads
 
 abbrev Inv-loop : tie.InvT-loop
 Inv-loop count all₀ c₀ all c = (c ≤ count) × (listOf all ≡ below c)

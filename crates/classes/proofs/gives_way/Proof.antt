@@ -2,11 +2,6 @@ use Rattle.model.specs.Recover.{givesWay, isCopyOf, isNewer}
 use borrow.Author.Needs.{needs}
 use Rattle.classes.proofs.gives_way.Statement.{statement}
 use Rattle.classes.proofs.gives_way.Tie as tie
-use Rattle.classes.proofs.gives_way.Reads as reads
-use Rattle.classes.proofs.gives_way.Lts as lts
-use Rattle.image.proofs.back_of.Reads as back-of-reads
-use Rattle.image.proofs.complete.Reads as complete-reads
-use Rattle.image.proofs.epoch_of.Reads as epoch-of-reads
 
 -- src/lib.rt:66:9
 complete-requires : tie.Need-complete-requires

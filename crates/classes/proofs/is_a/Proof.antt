@@ -1,18 +1,7 @@
 use Rattle.model.specs.Recover.{isFree}
-use mathlib.Core.Path.{_≡_, refl, sym, _∙_}
 use borrow.Author.Needs.{needs}
 use Rattle.classes.proofs.is_a.Statement.{statement}
 use Rattle.classes.proofs.is_a.Tie as tie
-use Rattle.classes.proofs.is_a.Reads as reads
-use Rattle.classes.proofs.is_a.Lts as lts
-use Rattle.classes.proofs.is_chosen.Reads as is-chosen-reads
-use Rattle.classes.proofs.is_only.Reads as is-only-reads
-use Rattle.image.proofs.back_of.Reads as back-of-reads
-use Rattle.image.proofs.epoch_of.Reads as epoch-of-reads
-use Rattle.image.proofs.is_copy.Reads as is-copy-reads
-use Rattle.image.proofs.is_dirty.Reads as is-dirty-reads
-use Rattle.image.proofs.is_write.Reads as is-write-reads
-use Rattle.image.proofs.used.Reads as used-reads
 
 -- src/lib.rt:126:25
 enum-told : tie.Need-enum-told

@@ -9,10 +9,6 @@ use Prim.Native.Nat.{_-_, _≤_}
 use mathlib.Core.Path.{_≡_, refl, sym, _∙_}
 use Rattle.classes.proofs.is_chosen.Statement.{statement}
 use Rattle.classes.proofs.is_chosen.Tie as tie
-use Rattle.classes.proofs.is_chosen.Reads as reads
-use Rattle.classes.proofs.is_chosen.Lts as lts
-use Rattle.classes.proofs.gives_way.Reads as gives-way-reads
-use Rattle.image.proofs.complete.Reads as complete-reads
 
 abbrev Inv-loop : tie.InvT-loop
 Inv-loop z c spare newest₀ e₀ newest e = (e ≤ z .c) × (newest ≡ allBelow e (givesWay z (spareOnly spare) c))

@@ -6,16 +6,9 @@ use Rattle.lists.specs.Lists.{member}
 use Rattle.fifo.specs.View.{listOf}
 use Rattle.image.specs.Chip.{spareOnly}
 use lib.Dec.{eqb}
-use mathlib.Core.Path.{_≡_, refl, sym, ap, _∙_}
 use borrow.Author.Needs.{needs}
 use Rattle.classes.proofs.is_kept.Statement.{statement}
 use Rattle.classes.proofs.is_kept.Tie as tie
-use Rattle.classes.proofs.is_kept.Reads as reads
-use Rattle.classes.proofs.is_kept.Lts as lts
-use Rattle.classes.proofs.count.Reads as count-reads
-use Rattle.classes.proofs.is_a.Reads as is-a-reads
-use Rattle.image.proofs.back_of.Reads as back-of-reads
-use Rattle.image.proofs.epoch_of.Reads as epoch-of-reads
 
 -- src/lib.rt:165:21
 enum-known-rule : tie.Need-enum-known-rule

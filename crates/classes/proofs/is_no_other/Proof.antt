@@ -2,10 +2,6 @@ use Rattle.model.specs.Recover.{isNoOther, isWriteOf}
 use borrow.Author.Needs.{needs}
 use Rattle.classes.proofs.is_no_other.Statement.{statement}
 use Rattle.classes.proofs.is_no_other.Tie as tie
-use Rattle.classes.proofs.is_no_other.Reads as reads
-use Rattle.classes.proofs.is_no_other.Lts as lts
-use Rattle.image.proofs.back_of.Reads as back-of-reads
-use Rattle.image.proofs.is_write.Reads as is-write-reads
 
 -- src/lib.rt:97:9
 is-write-requires : tie.Need-is-write-requires

@@ -9,10 +9,6 @@ use Prim.Native.Nat.{_-_, _≤_}
 use mathlib.Core.Path.{_≡_, refl, sym, _∙_}
 use Rattle.classes.proofs.is_only.Statement.{statement}
 use Rattle.classes.proofs.is_only.Tie as tie
-use Rattle.classes.proofs.is_only.Reads as reads
-use Rattle.classes.proofs.is_only.Lts as lts
-use Rattle.classes.proofs.is_no_other.Reads as is-no-other-reads
-use Rattle.image.proofs.is_write.Reads as is-write-reads
 
 abbrev Inv-loop : tie.InvT-loop
 Inv-loop z w spare only₀ e₀ only e = (e ≤ z .c) × (only ≡ allBelow e (isNoOther z (spareOnly spare) w))

@@ -9,17 +9,10 @@ use Rattle.image.specs.Chip.{spareOnly}
 use lib.ListN.{length, take}
 use borrow.Author.Needs.{needs}
 use native.Mathlib.Omega.{arith}
-use Prim.Native.Nat.{ℕ, _-_, _≤_, _<_}
-use mathlib.Core.List.{List}
-use mathlib.Core.Path.{_≡_, refl, sym, ap, _∙_}
+use Prim.Native.Nat.{ℕ, _-_, _≤_}
+use mathlib.Core.Path.{_≡_, sym, ap, _∙_}
 use Rattle.classes.proofs.selected.Statement.{statement}
 use Rattle.classes.proofs.selected.Tie as tie
-use Rattle.classes.proofs.selected.Reads as reads
-use Rattle.classes.proofs.selected.Lts as lts
-use Rattle.classes.proofs.is_kept.Reads as is-kept-reads
-use Rattle.fifo.proofs.Fifo.empty.Reads as empty-reads
-use Rattle.fifo.proofs.Fifo.push.Reads as push-reads
-use Rattle.fifo.proofs.Fifo.used.Reads as used-reads
 
 abbrev Inv-loop : tie.InvT-loop
 Inv-loop z rule list spare n items kept₀ i₀ kept i = (i ≤ n) × (listOf kept ≡ keep (isKept z (spareOnly spare) rule (listOf list)) (take i items)) × (length items ≡ 256) × (n ≤ 256)

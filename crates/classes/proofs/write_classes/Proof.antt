@@ -5,10 +5,6 @@ use Rattle.image.specs.Chip.{spareOnly}
 use borrow.Author.Needs.{needs}
 use Rattle.classes.proofs.write_classes.Statement.{statement}
 use Rattle.classes.proofs.write_classes.Tie as tie
-use Rattle.classes.proofs.write_classes.Reads as reads
-use Rattle.classes.proofs.write_classes.Lts as lts
-use Rattle.classes.proofs.buckets.Reads as buckets-reads
-use Rattle.classes.proofs.selected.Reads as selected-reads
 
 -- src/lib.rt:226:9
 buckets-requires : tie.Need-buckets-requires

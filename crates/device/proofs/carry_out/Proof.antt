@@ -2,11 +2,6 @@ use Rattle.model.specs.Stores.{apply}
 use borrow.Author.Needs.{needs}
 use Rattle.device.proofs.carry_out.Statement.{statement}
 use Rattle.device.proofs.carry_out.Tie as tie
-use Rattle.device.proofs.carry_out.Reads as reads
-use Rattle.device.proofs.carry_out.Lts as lts
-use Rattle.device.proofs.erase.Reads as erase-reads
-use Rattle.device.proofs.program.Reads as program-reads
-use Rattle.device.proofs.write_unit.Reads as write-unit-reads
 
 enum-known-what : tie.Need-enum-known-what
 enum-known-what c = search needs

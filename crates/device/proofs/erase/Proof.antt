@@ -5,9 +5,6 @@ use Prim.Native.Nat.{_+_, _*_, _≤_}
 use borrow.Author.Needs.{needs}
 use Rattle.device.proofs.erase.Statement.{statement}
 use Rattle.device.proofs.erase.Tie as tie
-use Rattle.device.proofs.erase.Reads as reads
-use Rattle.device.proofs.erase.Lts as lts
-use Rattle.area.proofs.fill_at.Reads as fill-at-reads
 
 -- the bucket's data and spare bytes lie within the areas
 inside : (c : tie.Start) → (c .args .bucket * (c .args .z .p * c .args .z .s) + c .args .z .p * c .args .z .s ≤ flashSize (c .args .z))

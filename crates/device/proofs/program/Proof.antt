@@ -8,9 +8,6 @@ use lib.ListN.{length}
 use borrow.Author.Needs.{needs}
 use Rattle.device.proofs.program.Statement.{statement}
 use Rattle.device.proofs.program.Tie as tie
-use Rattle.device.proofs.program.Reads as reads
-use Rattle.device.proofs.program.Lts as lts
-use Rattle.device.proofs.write_page.Reads as write-page-reads
 
 -- the page's data and spare bytes lie within the areas
 inside : (c : tie.Start) → ((c .args .bucket * c .args .z .p + c .args .page) * c .args .z .s + c .args .z .s ≤ flashSize (c .args .z))

@@ -3,9 +3,6 @@ use native.Mathlib.Omega.{arith}
 use borrow.Author.Needs.{needs}
 use Rattle.device.proofs.write_unit.Statement.{statement}
 use Rattle.device.proofs.write_unit.Tie as tie
-use Rattle.device.proofs.write_unit.Reads as reads
-use Rattle.device.proofs.write_unit.Lts as lts
-use Rattle.area.proofs.write_at.Reads as write-at-reads
 
 mul-write-at : tie.Need-mul-write-at
 mul-write-at c = omega (arith, unit-bytes (c .before .before .before .before .args .z) (c .before .before .before .before .args .index) (c .before .before .before .before .pre .1))

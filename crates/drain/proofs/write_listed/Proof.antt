@@ -12,7 +12,8 @@ use Rattle.model.specs.Stores.{Store}
 use Rattle.model.specs.Sizes.{bucketSize}
 use Rattle.order.proofs.Next.{next}
 use Rattle.drain.proofs.Stores.{storesTo, next-unclean, stores-start, stores-more}
-use Rattle.drain.proofs.Ahead.{Ahead, ahead-start, sources, stores-ahead, ahead-more}
+use Rattle.gather.proofs.Gathered.{sources-of}
+use Rattle.drain.proofs.Ahead.{Ahead, ahead-start, stores-ahead, ahead-more}
 use Rattle.drain.specs.Listed.{Drains}
 use Rattle.drain.proofs.write_listed.Statement.{statement}
 use Rattle.drain.proofs.write_listed.Tie as tie
@@ -54,7 +55,7 @@ write-back-requires : tie.Need-write-back-requires Inv-loop μ-loop
 write-back-requires c κs = let p = c .before .before .before .before .before .before .before .before .before .before .before .pre in
     let l = c .before .before .before .before .before .loop in
     let drains : Drains (viewOf (c .before .before .before .before .before .before .before .before .before .before .before .args .s)) (l .spare) = record { orderly = p .1 .0 .drains .orderly; well-formed = rw (l .inv .5 .spare) (p .1 .0 .drains .well-formed) } in
-    (sources drains (l .inv .1) (l .b) (c .before .before .before .before .loop-test .taken), l .inv .2)
+    (sources-of (drains .orderly) (drains .well-formed) (c .before .before .before .before .loop-test .taken) (l .inv .1), l .inv .2)
 
 add-next-of : tie.Need-add-next-of Inv-loop μ-loop
 add-next-of c = omega (arith, c .before .before .before .before .before .before .before .before .before .before .before .before .before .loop-test .taken, c .before .before .before .before .before .before .before .before .before .before .before .before .before .before .before .before .before .before .before .before .pre .1 .0 .drains .orderly .limits .b-high)
@@ -90,7 +91,7 @@ loop-again c = let a = c .before .before .before .before .before .before .before
           ∙ (ap (λ (ss : List Store). runAll z ss (running (l .flash) (l .spare) (l .disk) (l .left))) (stores-ahead z s (l .b) (l .inv .5))
           ∙ (ap (runAll z (drainStores z d s (l .b))) (l .inv .4)
           ∙ stores-more z d s listed (p .1 .0 .listed) (l .b) start h (l .inv .3 h)))),
-      ahead-more (sources drains (l .inv .1) (l .b) h) (l .left) (w .0) (l .inv .5) _ (omega (arith, n, after .low (omega arith))),
+      ahead-more (sources-of (drains .orderly) (drains .well-formed) h (l .inv .1)) (l .left) (w .0) (l .inv .5) _ (omega (arith, n, after .low (omega arith))),
     )
 
 same-length : tie.Need-same-length Inv-loop μ-loop

@@ -2,7 +2,7 @@ use mathlib.Core.Path.{sym, _∙_}
 use Rattle.state.specs.View.{viewOf}
 use Rattle.geometry.specs.Geometry.{device}
 use Rattle.model.specs.Calls.{eraseCall, tests, refusal, planOf, lentBuffer}
-use Rattle.checks.proofs.Opens.{running-opens, open-bounded, open-below}
+use Rattle.checks.proofs.Opens.{running-opens, open-orderly}
 use Rattle.outcome.proofs.Ends.{handed-taken, handed-refused}
 use borrow.Author.Needs.{needs}
 use Rattle.erasestep.proofs.erase_step.Statement.{statement}
@@ -15,7 +15,7 @@ erase-head-requires : tie.Need-erase-head-requires
 erase-head-requires c κs =
     let a = c .before .before .before .before .before .before .before .before .before .before .before .args in
     let opened = running-opens (viewOf (a .s)) (device (a .flash .now) (a .spare .now) (a .disk .now)) (sym (c .before .before .before .before .running-refusal .ensures) ∙ c .before .before .before .if1 .taken) in
-    (opened .image .lent, (open-bounded opened, open-below opened .gc))
+    (opened .image .lent, (open-orderly opened .bounded, open-orderly opened .gc))
 
 refused-requires : tie.Need-refused-requires
 refused-requires c κs = search needs

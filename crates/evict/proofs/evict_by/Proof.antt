@@ -1,8 +1,6 @@
 use Rattle.evict.proofs.Evicted.{dropped-left, evicted-by}
-use Rattle.steps.proofs.Kept.{chip-some}
-use Rattle.steps.proofs.Inside.{cache-inside}
-use Rattle.queue.specs.View.{entriesOf}
 use Rattle.state.specs.View.{viewOf}
+use Rattle.gather.proofs.Gathered.{sources-of}
 use Rattle.geometry.specs.Geometry.{device}
 use native.Mathlib.Omega.{arith}
 use Rattle.evict.proofs.evict_by.Statement.{statement}
@@ -10,19 +8,8 @@ use Rattle.evict.proofs.evict_by.Tie as tie
 
 merged-into-requires : tie.Need-merged-into-requires
 merged-into-requires c κs = let start = c .before .before .before .before .before .before .before .before in
-    let a = start .args in
     let evicts = start .pre .1 .0 .0 in
-    let orderly = evicts .ready .orderly in (
-      record {
-        limits = orderly .limits;
-        lent = start .pre .0;
-        well-formed = start .pre .1 .0 .1;
-        back = evicts .back;
-        read = cache-inside (a .s .sizes .c) (a .b) (entriesOf (a .s .reads)) (orderly .reads) (chip-some orderly);
-        write = cache-inside (a .s .sizes .c) (a .b) (entriesOf (a .s .writes)) (orderly .writes) (chip-some orderly);
-      },
-      start .pre .1 .1,
-    )
+    (sources-of (evicts .ready .orderly) (start .pre .1 .0 .1) (evicts .back) (start .pre .0), start .pre .1 .1)
 
 put-away-requires : tie.Need-put-away-requires
 put-away-requires c κs = let p = c .before .before .before .before .before .before .before .before .before .before .before .before .before .before .before .pre in

@@ -25,7 +25,7 @@ loop-holds : tie.Need-loop-holds Inv-loop μ-loop
 unfolding all
 loop-holds c = let q = c .before .before .before .args .free in
     let u = c .before .used in
-    (search needs, search needs, search needs, rw (take-used (u .result) (q .len) (q .items) (u .ensures .0)) (c .before .before .before .pre .1), refl)
+    (search needs, search needs, search needs, rw (take-used (u .result) (q .len) (q .items) (u .ensures .0)) (c .before .before .before .pre .1 .1), refl)
 
 array-read-c : tie.Need-array-read-c Inv-loop μ-loop
 array-read-c c = search needs
@@ -36,7 +36,7 @@ cast-c c = search needs
 all-blank-requires : tie.Need-all-blank-requires Inv-loop μ-loop
 all-blank-requires c κs = let l = c .before .loop in
     let q = c .before .before .before .before .before .args in
-    (c .before .before .before .before .before .pre .0, bucket-below (q .z .c) (c .before .before .before .used .result) (q .free .items) (l .i) (l .inv .3) (omega arith) (omega arith))
+    (c .before .before .before .before .before .pre .0, (c .before .before .before .before .before .pre .1 .0, bucket-below (q .z .c) (c .before .before .before .used .result) (q .free .items) (l .i) (l .inv .3) (omega arith) (omega arith)))
 
 add-i : tie.Need-add-i Inv-loop μ-loop
 add-i c = search needs

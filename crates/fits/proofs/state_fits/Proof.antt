@@ -25,7 +25,7 @@ tags-agree-requires : tie.Need-tags-agree-requires
 unfolding eachOnce
 tags-agree-requires c κs = let s = viewOf (c .before .before .before .before .args .s) in
     let e : eachOnce (s .sizes .c) (queued s) ≡ true = sym (c .before .before .buckets-once .ensures) ∙ not-false _ (c .before .if1 .left) in
-    (c .before .before .before .before .pre, every-at _ e 1)
+    (c .before .before .before .before .pre .0, (c .before .before .before .before .pre .1, every-at _ e 1))
 
 numbers-fit-requires : tie.Need-numbers-fit-requires
 numbers-fit-requires c κs = search needs

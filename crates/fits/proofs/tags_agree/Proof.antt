@@ -9,16 +9,15 @@ use Rattle.fits.proofs.Parts.{three}
 use Rattle.fits.specs.Fits.{tagsAgree}
 use Rattle.fits.proofs.tags_agree.Statement.{statement}
 use Rattle.fits.proofs.tags_agree.Tie as tie
-use Rattle.fits.proofs.tags_agree.Reads as reads
 
 reads-agree-requires : tie.Need-reads-agree-requires
-reads-agree-requires c κs = (c .before .before .pre .0, queues-below (viewOf (c .before .before .args .s)) (c .before .before .pre .1) .reads)
+reads-agree-requires c κs = (c .before .before .pre .0, queues-below (viewOf (c .before .before .args .s)) (c .before .before .pre .1 .1) .reads)
 
 writes-agree-requires : tie.Need-writes-agree-requires
-writes-agree-requires c κs = (c .before .before .before .pre .0, queues-below (viewOf (c .before .before .before .args .s)) (c .before .before .before .pre .1) .writes)
+writes-agree-requires c κs = (c .before .before .before .pre .0, queues-below (viewOf (c .before .before .before .args .s)) (c .before .before .before .pre .1 .1) .writes)
 
 free-blank-requires : tie.Need-free-blank-requires
-free-blank-requires c κs = (c .before .before .before .before .pre .0, queues-below (viewOf (c .before .before .before .before .args .s)) (c .before .before .before .before .pre .1) .free)
+free-blank-requires c κs = (c .before .before .before .before .pre .0, (c .before .before .before .before .pre .1 .0, queues-below (viewOf (c .before .before .before .before .args .s)) (c .before .before .before .before .pre .1 .1) .free))
 
 returns : tie.Need-returns
 unfolding tagsAgree

@@ -1,4 +1,4 @@
-use Rattle.geometry.proofs.Passed.{Products, products}
+use Rattle.geometry.proofs.Passed.{products}
 use Rattle.model.specs.Sizes.{lengths, flashSize, spareSize, diskSize, bucketSize}
 use Rattle.lists.specs.Lists.{every}
 use native.Mathlib.Omega.{arith}
@@ -6,8 +6,6 @@ use mathlib.Core.Bool.{and-true, and-assoc}
 use mathlib.Core.Path.{refl}
 use Rattle.geometry.proofs.lengths.Statement.{statement}
 use Rattle.geometry.proofs.lengths.Tie as tie
-use Rattle.geometry.proofs.lengths.Reads as reads
-use Rattle.geometry.proofs.lengths.Lts as lts
 
 mul-bucket : tie.Need-mul-bucket
 mul-bucket c = omega (arith, products (c .before .pre))

@@ -4,10 +4,6 @@ use mathlib.Core.Path.{sym, _∙_}
 use borrow.Author.Needs.{needs}
 use Rattle.geometry.proofs.lent_refusal.Statement.{statement}
 use Rattle.geometry.proofs.lent_refusal.Tie as tie
-use Rattle.geometry.proofs.lent_refusal.Reads as reads
-use Rattle.geometry.proofs.lent_refusal.Lts as lts
-use Rattle.geometry.proofs.lengths.Reads as lengths-reads
-use Rattle.geometry.proofs.limits.Reads as limits-reads
 
 limits-requires : tie.Need-limits-requires
 limits-requires c κs = search needs

@@ -3,10 +3,6 @@ use Rattle.lists.specs.Lists.{every}
 use borrow.Author.Needs.{needs}
 use Rattle.geometry.proofs.limits.Statement.{statement}
 use Rattle.geometry.proofs.limits.Tie as tie
-use Rattle.geometry.proofs.limits.Reads as reads
-use Rattle.geometry.proofs.limits.Lts as lts
-use Rattle.geometry.proofs.queues_within.Reads as queues-within-reads
-use Rattle.geometry.proofs.within.Reads as within-reads
 
 within-requires : tie.Need-within-requires
 within-requires c κs = search needs

@@ -3,8 +3,6 @@ use mathlib.Core.Path.{refl}
 use borrow.Author.Needs.{needs}
 use Rattle.geometry.proofs.pages_for.Statement.{statement}
 use Rattle.geometry.proofs.pages_for.Tie as tie
-use Rattle.geometry.proofs.pages_for.Reads as reads
-use Rattle.geometry.proofs.pages_for.Lts as lts
 
 add-result : tie.Need-add-result
 add-result c = search needs

@@ -6,9 +6,6 @@ use mathlib.Core.Path.{sym, _∙_}
 use borrow.Author.Needs.{needs}
 use Rattle.geometry.proofs.queues_within.Statement.{statement}
 use Rattle.geometry.proofs.queues_within.Tie as tie
-use Rattle.geometry.proofs.queues_within.Reads as reads
-use Rattle.geometry.proofs.queues_within.Lts as lts
-use Rattle.geometry.proofs.within.Reads as within-reads
 
 within-requires : tie.Need-within-requires
 within-requires c κs = search needs

@@ -5,11 +5,6 @@ use Prim.Native.Nat.{_-_, _*_, min}
 use borrow.Author.Needs.{needs}
 use Rattle.log.proofs.page_bytes.Statement.{statement}
 use Rattle.log.proofs.page_bytes.Tie as tie
-use Rattle.log.proofs.page_bytes.Reads as reads
-use Rattle.log.proofs.page_bytes.Lts as lts
-use Rattle.area.proofs.fill.Reads as fill-reads
-use Rattle.area.proofs.write_at.Reads as write-at-reads
-use Rattle.log.proofs.smaller.Reads as smaller-reads
 
 mul-at : tie.Need-mul-at
 mul-at c = search needs

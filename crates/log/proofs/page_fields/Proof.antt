@@ -1,4 +1,4 @@
-use Rattle.log.proofs.Pages.{Small, small}
+use Rattle.log.proofs.Pages.{small}
 use Rattle.spare.specs.Fields.{tag}
 use native.Mathlib.Omega.{arith}
 use mathlib.Core.Path.{_≡_}
@@ -6,9 +6,6 @@ use Prim.Native.Nat.{_+_, _-_}
 use borrow.Author.Needs.{needs}
 use Rattle.log.proofs.page_fields.Statement.{statement}
 use Rattle.log.proofs.page_fields.Tie as tie
-use Rattle.log.proofs.page_fields.Reads as reads
-use Rattle.log.proofs.page_fields.Lts as lts
-use Rattle.geometry.proofs.pages_for.Reads as pages-for-reads
 
 pages-for-requires : tie.Need-pages-for-requires
 pages-for-requires c κs = (c .pre .0 .limits, small (c .pre .0) .bytes)

@@ -5,12 +5,6 @@ use lib.ListN.{length}
 use borrow.Author.Needs.{needs}
 use Rattle.log.proofs.program_by.Statement.{statement}
 use Rattle.log.proofs.program_by.Tie as tie
-use Rattle.log.proofs.program_by.Reads as reads
-use Rattle.log.proofs.program_by.Lts as lts
-use Rattle.log.proofs.page_bytes.Reads as page-bytes-reads
-use Rattle.log.proofs.page_fields.Reads as page-fields-reads
-use Rattle.meter.proofs.store.Reads as store-reads
-use Rattle.spare.proofs.encode.Reads as encode-reads
 
 page-bytes-requires : tie.Need-page-bytes-requires
 page-bytes-requires c κs =

@@ -1,4 +1,4 @@
-use Rattle.log.proofs.Pages.{Small, small}
+use Rattle.log.proofs.Pages.{small}
 use Rattle.log.specs.Logs.{pageStore}
 use Rattle.meter.proofs.Runs.{run-more}
 use Rattle.meter.specs.Run.{running, runAll}
@@ -12,10 +12,6 @@ use lib.ListN.{length}
 use Prim.Native.Nat.{_-_, _≤_}
 use Rattle.log.proofs.program_log.Statement.{statement}
 use Rattle.log.proofs.program_log.Tie as tie
-use Rattle.log.proofs.program_log.Reads as reads
-use Rattle.log.proofs.program_log.Lts as lts
-use Rattle.geometry.proofs.pages_for.Reads as pages-for-reads
-use Rattle.log.proofs.program_page.Reads as program-page-reads
 
 abbrev Inv-loop : tie.InvT-loop
 Inv-loop z log bytes flash₀ spare₀ disk₀ pages run₀ o₀ flash spare disk run o =

@@ -3,9 +3,6 @@ use lib.ListN.{length-take}
 use borrow.Author.Needs.{needs}
 use Rattle.log.proofs.program_page.Statement.{statement}
 use Rattle.log.proofs.program_page.Tie as tie
-use Rattle.log.proofs.program_page.Reads as reads
-use Rattle.log.proofs.program_page.Lts as lts
-use Rattle.log.proofs.program_by.Reads as program-by-reads
 
 array-borrow-prefix-page : tie.Need-array-borrow-prefix-page
 array-borrow-prefix-page c = search needs

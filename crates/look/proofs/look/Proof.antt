@@ -1,5 +1,5 @@
 use Prim.Native.Nat.{_+_, _*_}
-use Rattle.look.proofs.Passed.{Looked, looked, answer-number}
+use Rattle.look.proofs.Passed.{looked, answer-number}
 use Rattle.look.specs.Look.{sized}
 use Rattle.model.specs.Calls.{lookBytes}
 use Rattle.lists.proofs.Lent.{lent-part}
@@ -10,9 +10,6 @@ use mathlib.Core.Path.{sym, _∙_}
 use borrow.Author.Needs.{needs}
 use Rattle.look.proofs.look.Statement.{statement}
 use Rattle.look.proofs.look.Tie as tie
-use Rattle.look.proofs.look.Reads as reads
-use Rattle.look.proofs.look.Lts as lts
-use Rattle.look.proofs.refusal.Reads as refusal-reads
 
 refusal-requires : tie.Need-refusal-requires
 refusal-requires c κs = search needs

@@ -1,4 +1,4 @@
-use Rattle.geometry.proofs.Passed.{Products, products, limits-hold}
+use Rattle.geometry.proofs.Passed.{products, limits-hold}
 use Rattle.model.specs.Calls.{firstFailed, lookTests}
 use Rattle.model.specs.Sizes.{flashSize, bucketSize}
 use borrow.Author.Tests.{eq-eqb, ne-eqb}
@@ -7,9 +7,6 @@ use mathlib.Core.Path.{sym, _∙_}
 use borrow.Author.Needs.{needs}
 use Rattle.look.proofs.refusal.Statement.{statement}
 use Rattle.look.proofs.refusal.Tie as tie
-use Rattle.look.proofs.refusal.Reads as reads
-use Rattle.look.proofs.refusal.Lts as lts
-use Rattle.geometry.proofs.limits.Reads as limits-reads
 
 limits-requires : tie.Need-limits-requires
 limits-requires c κs = search needs

@@ -3,9 +3,6 @@ use borrow.Author.Tests.{eq-eqb, ne-eqb}
 use borrow.Author.Needs.{needs}
 use Rattle.meter.proofs.store.Statement.{statement}
 use Rattle.meter.proofs.store.Tie as tie
-use Rattle.meter.proofs.store.Reads as reads
-use Rattle.meter.proofs.store.Lts as lts
-use Rattle.device.proofs.carry_out.Reads as carry-out-reads
 
 returns : tie.Need-returns
 unfolding step

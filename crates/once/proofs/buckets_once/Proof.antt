@@ -1,12 +1,12 @@
-use mathlib.Core.Bool.{and-true}
-use mathlib.Core.Path.{_≡_, _∙_}
+use mathlib.Core.Bool.{true, false, and-true}
+use mathlib.Core.Path.{_≡_, sym, ap, _∙_}
 use native.Mathlib.Omega.{arith}
 use lib.ListN.{length, take}
 use borrow.Author.Tests.{eq-eqb, ne-eqb}
 use borrow.Author.Needs.{needs}
 use Rattle.lists.proofs.Arrays.{take-used}
-use Rattle.lists.specs.Lists.{every}
-use Rattle.model.specs.State.{queued, eachOnce}
+use Rattle.lists.specs.Lists.{every, all}
+use Rattle.model.specs.State.{queued, isBelow, eachOnce}
 use Rattle.state.proofs.Allocate.{queued-length}
 use Rattle.state.specs.View.{viewOf}
 use Rattle.once.proofs.buckets_once.Statement.{statement}
@@ -48,16 +48,27 @@ all-below-requires : tie.Need-all-below-requires
 all-below-requires c κs = search needs
 
 all-once-requires : tie.Need-all-once-requires
-all-once-requires c κs = search needs
+all-once-requires c κs = ((omega arith, c .before .before .before .before .before .before .before .before .before .before .pre), sym (c .before .all-below .ensures) ∙ c .if2 .taken)
 
 returns-2 : tie.Need-returns-2
 unfolding eachOnce every
-returns-2 c = let s = c .before .before .before .before .before .before .before .before .before .before .args .s in
+returns-2 c = let s = c .before .before .before .before .before .before .before .before .before .before .before .args .s in
+    let list = c .before .before .before .before .before .queued .result in
+    let u = c .before .before .before .before .used5 in
+    let e : length (queued (viewOf s)) ≡ s .sizes .c = omega (arith, queued-length (viewOf s)) in
+    let l : take (u .result) (list .items) ≡ queued (viewOf s) = take-used (u .result) (list .len) (list .items) (u .ensures .0) ∙ c .before .before .before .before .before .queued .ensures in
+    let b : all (isBelow (s .sizes .c)) (queued (viewOf s)) ≡ true = ap (all (isBelow (s .sizes .c))) (sym l) ∙ (sym (c .before .before .all-below .ensures) ∙ c .before .if2 .taken) in
+    rw (c .all-once .ensures, l, eq-eqb (length (queued (viewOf s))) (s .sizes .c) e, b) (simp and-true)
+
+returns-3 : tie.Need-returns-3
+unfolding eachOnce every
+returns-3 c = let s = c .before .before .before .before .before .before .before .before .before .before .args .s in
     let list = c .before .before .before .before .queued .result in
     let u = c .before .before .before .used5 in
     let e : length (queued (viewOf s)) ≡ s .sizes .c = omega (arith, queued-length (viewOf s)) in
     let l : take (u .result) (list .items) ≡ queued (viewOf s) = take-used (u .result) (list .len) (list .items) (u .ensures .0) ∙ c .before .before .before .before .queued .ensures in
-    rw (c .all-once .ensures, c .before .all-below .ensures, l, eq-eqb (length (queued (viewOf s))) (s .sizes .c) e) (simp and-true)
+    let b : all (isBelow (s .sizes .c)) (queued (viewOf s)) ≡ false = ap (all (isBelow (s .sizes .c))) (sym l) ∙ (sym (c .before .all-below .ensures) ∙ c .if2 .left) in
+    rw (eq-eqb (length (queued (viewOf s))) (s .sizes .c) e, b)
 
 pub buckets-once-spec : {M : Type 1} → statement M
 buckets-once-spec =
@@ -75,4 +86,5 @@ buckets-once-spec =
     used-requires-5
     all-below-requires
     all-once-requires
-    returns-2)
+    returns-2
+    returns-3)

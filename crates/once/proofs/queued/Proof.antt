@@ -1,4 +1,3 @@
-use Prim.Native.Nat.{_+_}
 use mathlib.Core.List.{_++_}
 use native.Mathlib.Omega.{arith}
 use lib.ListN.{length-append}
@@ -8,7 +7,6 @@ use Rattle.fifo.specs.View.{listOf}
 use Rattle.queue.specs.View.{entriesOf}
 use Rattle.once.proofs.queued.Statement.{statement}
 use Rattle.once.proofs.queued.Tie as tie
-use Rattle.once.proofs.queued.Reads as reads
 
 caches-requires : tie.Need-caches-requires
 caches-requires c κs = search needs

@@ -5,15 +5,11 @@ use Rattle.lists.proofs.Arrays.{take-used, mapped-more}
 use lib.ListN.{length, take, length-set}
 use borrow.Author.Needs.{needs}
 use native.Mathlib.Omega.{arith}
-use Prim.Native.Nat.{ℕ, _-_, _≤_, _<_}
-use mathlib.Core.List.{List, map}
-use mathlib.Core.Path.{_≡_, refl, sym, ap, _∙_}
+use Prim.Native.Nat.{_-_, _≤_}
+use mathlib.Core.List.{map}
+use mathlib.Core.Path.{_≡_, refl, ap, _∙_}
 use Rattle.rescue.proofs.backs.Statement.{statement}
 use Rattle.rescue.proofs.backs.Tie as tie
-use Rattle.rescue.proofs.backs.Reads as reads
-use Rattle.rescue.proofs.backs.Lts as lts
-use Rattle.fifo.proofs.Fifo.used.Reads as used-reads
-use Rattle.image.proofs.back_of.Reads as back-of-reads
 
 abbrev Inv-loop : tie.InvT-loop
 Inv-loop z spare n items numbers₀ i₀ numbers i = (i ≤ n) × (take i numbers ≡ map (backOf z (spareOnly spare)) (take i items)) × (length numbers ≡ 256) × (length items ≡ 256) × (n ≤ 256)

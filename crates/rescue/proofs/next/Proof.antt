@@ -1,6 +1,5 @@
-use mathlib.Core.Path.{_≡_, ap, _∙_}
+use mathlib.Core.Path.{ap, _∙_}
 use Prim.Native.Nat.{ℕ}
-use borrow.Author.Needs.{needs}
 use Rattle.order.specs.Order.{nextOf}
 use Rattle.rescue.specs.Numbers.{backsOf}
 use Rattle.rescue.proofs.Rescues.{next-both}

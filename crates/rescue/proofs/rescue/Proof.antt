@@ -4,10 +4,6 @@ use native.Mathlib.Omega.{arith}
 use borrow.Author.Needs.{needs}
 use Rattle.rescue.proofs.rescue.Statement.{statement}
 use Rattle.rescue.proofs.rescue.Tie as tie
-use Rattle.rescue.proofs.rescue.Reads as reads
-use Rattle.rescue.proofs.rescue.Lts as lts
-use Rattle.rescue.proofs.rescue_large.Reads as rescue-large-reads
-use Rattle.rescue.proofs.rescue_small.Reads as rescue-small-reads
 
 -- src/lib.rt:184:8
 mul-if1 : tie.Need-mul-if1

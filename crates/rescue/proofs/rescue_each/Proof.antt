@@ -1,7 +1,7 @@
-use mathlib.Core.Path.{_≡_, sym, ap, _∙_}
+use mathlib.Core.Path.{_≡_, ap, _∙_}
 use mathlib.Core.Bool.{true}
 use mathlib.Core.List.{map, _++_}
-use Prim.Native.Nat.{ℕ, _+_, _-_, _≤_, _<_}
+use Prim.Native.Nat.{_+_, _-_, _≤_, _<_}
 use native.Mathlib.Omega.{arith}
 use lib.ListN.{length}
 use Rattle.model.specs.Sizes.{bucketSize}
@@ -14,7 +14,8 @@ use Rattle.classes.proofs.Choices.{within-as, buckets-within, unsaved-within}
 use Rattle.rescued.proofs.Bytes.{chip-of}
 use Rattle.rescue.specs.Numbers.{backsOf}
 use Rattle.rescue.proofs.Rescues.{found-in}
-use Rattle.rescue.proofs.Reached.{lengths-of, next-high, next-low, next-rescued, none-between, Reached, reached-first, reached-more}
+use Rattle.geometry.proofs.Passed.{lengths-of}
+use Rattle.rescue.proofs.Reached.{next-high, next-low, next-rescued, none-between, Reached, reached-first, reached-more}
 use Rattle.rescue.proofs.rescue_each.Statement.{statement}
 use Rattle.rescue.proofs.rescue_each.Tie as tie
 

@@ -1,13 +1,9 @@
 use Rattle.model.specs.Recover.{rescueStores}
 use lib.ListN.{length}
-use mathlib.Core.Path.{_≡_, sym, ap, _∙_}
+use mathlib.Core.Path.{sym, ap, _∙_}
 use borrow.Author.Needs.{needs}
 use Rattle.rescue.proofs.rescue_one.Statement.{statement}
 use Rattle.rescue.proofs.rescue_one.Tie as tie
-use Rattle.rescue.proofs.rescue_one.Reads as reads
-use Rattle.rescue.proofs.rescue_one.Lts as lts
-use Rattle.rescued.proofs.rescued_into.Reads as rescued-into-reads
-use Rattle.units.proofs.write_units.Reads as write-units-reads
 
 -- src/lib.rt:76:30
 cast-rescued-into : tie.Need-cast-rescued-into

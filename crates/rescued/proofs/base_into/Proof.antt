@@ -1,4 +1,4 @@
-use Rattle.rescued.proofs.Bytes.{whole-part}
+use Rattle.lists.proofs.Parts.{whole-part}
 use Rattle.model.specs.Sizes.{bucketSize, diskSize}
 use Rattle.geometry.proofs.Passed.{products}
 use Rattle.geometry.proofs.Places.{nth-inside, bucket-data}
@@ -9,9 +9,6 @@ use mathlib.Core.Path.{_∙_}
 use borrow.Author.Needs.{needs}
 use Rattle.rescued.proofs.base_into.Statement.{statement}
 use Rattle.rescued.proofs.base_into.Tie as tie
-use Rattle.rescued.proofs.base_into.Reads as reads
-use Rattle.rescued.proofs.base_into.Lts as lts
-use Rattle.gather.proofs.piece_range.Reads as piece-range-reads
 
 -- src/lib.rt:64:16
 mul-size : tie.Need-mul-size

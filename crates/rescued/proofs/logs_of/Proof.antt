@@ -3,13 +3,9 @@ use Rattle.model.specs.Recover.{byEpoch, isWriteOf}
 use Rattle.model.specs.Image.{epochOf, isWrite}
 use Rattle.image.specs.Chip.{spareOnly}
 use Rattle.lists.specs.Lists.{sortBy}
-use mathlib.Core.Path.{_≡_, ap, _∙_}
+use mathlib.Core.Path.{ap, _∙_}
 use Rattle.rescued.proofs.logs_of.Statement.{statement}
 use Rattle.rescued.proofs.logs_of.Tie as tie
-use Rattle.rescued.proofs.logs_of.Reads as reads
-use Rattle.rescued.proofs.logs_of.Lts as lts
-use Rattle.classes.proofs.selected.Reads as selected-reads
-use Rattle.order.proofs.by_epoch.Reads as by-epoch-reads
 
 -- src/lib.rt:45:9
 selected-requires : tie.Need-selected-requires

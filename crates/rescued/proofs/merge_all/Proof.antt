@@ -7,15 +7,11 @@ use Rattle.lists.proofs.Arrays.{take-used, rest-none}
 use lib.ListN.{length, take, drop}
 use borrow.Author.Needs.{needs}
 use native.Mathlib.Omega.{arith}
-use Prim.Native.Nat.{ℕ, _-_, _≤_, _<_}
+use Prim.Native.Nat.{ℕ, _-_, _≤_}
 use mathlib.Core.List.{List}
 use mathlib.Core.Path.{_≡_, refl, sym, ap, _∙_}
 use Rattle.rescued.proofs.merge_all.Statement.{statement}
 use Rattle.rescued.proofs.merge_all.Tie as tie
-use Rattle.rescued.proofs.merge_all.Reads as reads
-use Rattle.rescued.proofs.merge_all.Lts as lts
-use Rattle.fifo.proofs.Fifo.used.Reads as used-reads
-use Rattle.merge.proofs.merge_into.Reads as merge-into-reads
 
 abbrev Inv-loop : tie.InvT-loop
 Inv-loop z flash spare bytes₀ n items i₀ bytes i = (i ≤ n) × (length bytes ≡ bucketSize z) × (mergeAll z (chip flash spare) (drop i (take n items)) bytes ≡ mergeAll z (chip flash spare) (take n items) bytes₀) × (length items ≡ 256) × (n ≤ 256)

@@ -6,20 +6,11 @@ use Rattle.geometry.specs.Geometry.{device}
 use lib.Dec.{eqb}
 use Prim.Native.Nat.{_≤_}
 use native.Mathlib.Omega.{arith}
-use mathlib.Core.Bool.{true, false, not}
+use mathlib.Core.Bool.{not}
 use mathlib.Core.Path.{_≡_, sym, _∙_}
 use borrow.Author.Needs.{needs}
 use Rattle.rescued.proofs.rescued_into.Statement.{statement}
 use Rattle.rescued.proofs.rescued_into.Tie as tie
-use Rattle.rescued.proofs.rescued_into.Reads as reads
-use Rattle.rescued.proofs.rescued_into.Lts as lts
-use Rattle.classes.proofs.count.Reads as count-reads
-use Rattle.classes.proofs.selected.Reads as selected-reads
-use Rattle.fifo.proofs.Fifo.head.Reads as head-reads
-use Rattle.fifo.proofs.Fifo.used.Reads as used-reads
-use Rattle.rescued.proofs.base_into.Reads as base-into-reads
-use Rattle.rescued.proofs.logs_of.Reads as logs-of-reads
-use Rattle.rescued.proofs.merge_all.Reads as merge-all-reads
 
 -- src/lib.rt:89:9
 selected-requires : tie.Need-selected-requires

@@ -1,41 +1,33 @@
-use mathlib.Core.Path.{_≡_, refl}
-use Prim.Native.Nat.{_≤_, _-_}
-use native.Mathlib.Omega.{arith}
+use Rattle.rules.proofs.Tail.{bucket-split}
+use Rattle.rules.specs.Pages.{isErased, spareFrom}
+use Rattle.lists.specs.Lists.{all}
+use borrow.Author.Tests.{not-true, not-false}
+use mathlib.Core.Bool.{true, false}
+use mathlib.Core.Path.{_≡_, sym, _∙_}
 use borrow.Author.Needs.{needs}
-use Rattle.image.specs.Chip.{spareOnly}
-use Rattle.model.specs.Image.{pageFits, bucketFits}
-use Rattle.lists.proofs.Turns.{all-more}
-use Rattle.lists.specs.Lists.{allBelow}
 use Rattle.rules.proofs.bucket_fits.Statement.{statement}
 use Rattle.rules.proofs.bucket_fits.Tie as tie
 
-abbrev Inv-loop : tie.InvT-loop
-Inv-loop z c spare fit₀ k₀ fit k = (k ≤ z .p) × (fit ≡ allBelow k (pageFits z (spareOnly spare) c))
+used-pages-requires : tie.Need-used-pages-requires
+used-pages-requires c κs = search needs
 
-abbrev μ-loop : tie.MeasureT-loop
-μ-loop z c spare fit₀ k₀ fit k = z .p - k
+erased-from-requires : tie.Need-erased-from-requires
+erased-from-requires c κs = let o = c .before .before in (o .pre .0, (o .pre .1, c .used-pages .ensures .within))
 
-loop-holds : tie.Need-loop-holds Inv-loop μ-loop
-unfolding allBelow
-loop-holds c = (omega arith, refl)
+returns : tie.Need-returns
+returns c = let o = c .before .before .before .before in let u = c .before .before .used-pages in
+    let e : all isErased (spareFrom (o .args .z) (o .args .spare .now) (o .args .c) (u .result)) ≡ false = sym (c .before .erased-from .ensures) ∙ not-true _ (c .if1 .taken) in
+    rw (bucket-split (o .pre .0) (o .args .c) (o .pre .1) (u .result) (u .ensures), e)
 
-page-fits-requires : tie.Need-page-fits-requires Inv-loop μ-loop
-page-fits-requires c κs = search needs
+pages-fit-requires : tie.Need-pages-fit-requires
+pages-fit-requires c κs = let o = c .before .before .before .before in (o .pre .0, (o .pre .1, c .before .before .used-pages .ensures .within))
 
-add-k : tie.Need-add-k Inv-loop μ-loop
-add-k c = omega arith
-
-loop-less : tie.Need-loop-less Inv-loop μ-loop
-loop-less c = omega arith
-
-loop-again : tie.Need-loop-again Inv-loop μ-loop
-loop-again c = (omega arith, rw (c .before .before .before .loop .inv .1, c .page-fits .ensures, all-more))
-
-returns : tie.Need-returns Inv-loop μ-loop
-unfolding bucketFits
-returns c = let e : c .before .before .loop .k ≡ c .before .before .before .before .args .z .p = omega arith in rw e at (c .before .before .loop .inv .1)
+returns-2 : tie.Need-returns-2
+returns-2 c = let o = c .before .before .before .before .before in let u = c .before .before .before .used-pages in
+    let e : all isErased (spareFrom (o .args .z) (o .args .spare .now) (o .args .c) (u .result)) ≡ true = sym (c .before .before .erased-from .ensures) ∙ not-false _ (c .before .if1 .left) in
+    rw (bucket-split (o .pre .0) (o .args .c) (o .pre .1) (u .result) (u .ensures), e) (c .pages-fit .ensures)
 
 pub bucket-fits-spec : {M : Type 1} → statement M
 bucket-fits-spec =
     tie.close
-    (tie.spec Inv-loop μ-loop loop-holds page-fits-requires add-k loop-less loop-again returns)
+    (tie.spec used-pages-requires erased-from-requires returns pages-fit-requires returns-2)

@@ -1,5 +1,5 @@
 use Rattle.geometry.proofs.Places.{nth-inside, page-below}
-use Rattle.geometry.proofs.Passed.{Products, products}
+use Rattle.geometry.proofs.Passed.{products}
 use Rattle.model.specs.Stores.{unitStore}
 use Rattle.model.specs.Sizes.{bucketSize}
 use Rattle.lists.proofs.Lent.{lent-part, lent-length}
@@ -9,9 +9,6 @@ use Prim.Native.Nat.{_+_, _*_, _<_, _≤_}
 use borrow.Author.Needs.{needs}
 use Rattle.units.proofs.write_unit.Statement.{statement}
 use Rattle.units.proofs.write_unit.Tie as tie
-use Rattle.units.proofs.write_unit.Reads as reads
-use Rattle.units.proofs.write_unit.Lts as lts
-use Rattle.meter.proofs.store.Reads as store-reads
 
 -- the unit is one of the disk's
 on-disk : (c : tie.Start) → c .args .b * c .args .z .p + c .args .u < c .args .z .b * c .args .z .p

@@ -8,9 +8,6 @@ use mathlib.Core.Path.{_≡_, refl}
 use Prim.Native.Nat.{_-_, _≤_}
 use Rattle.units.proofs.write_units.Statement.{statement}
 use Rattle.units.proofs.write_units.Tie as tie
-use Rattle.units.proofs.write_units.Reads as reads
-use Rattle.units.proofs.write_units.Lts as lts
-use Rattle.units.proofs.write_unit.Reads as write-unit-reads
 
 abbrev Inv-loop : tie.InvT-loop
 Inv-loop z b bytes flash₀ spare₀ disk₀ p run₀ u₀ flash spare disk run u =

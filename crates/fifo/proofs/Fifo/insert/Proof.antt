@@ -1,18 +1,12 @@
 use Rattle.fifo.proofs.Insert.{inserted}
-use Rattle.fifo.specs.View.{listOf}
 use Rattle.lists.proofs.Arrays.{take-used}
-use lib.ListN.{length, take, drop}
-use mathlib.Core.List.{_∷_, _++_}
+use lib.ListN.{length}
 use native.Mathlib.Omega.{arith}
-use Prim.Native.Nat.{_≤_, _<_}
-use mathlib.Core.Path.{_≡_, refl, sym, _∙_, ap}
+use Prim.Native.Nat.{_<_}
+use mathlib.Core.Path.{_≡_, sym}
 use borrow.Author.Needs.{needs}
 use Rattle.fifo.proofs.Fifo.insert.Statement.{statement}
 use Rattle.fifo.proofs.Fifo.insert.Tie as tie
-use Rattle.fifo.proofs.Fifo.insert.Reads as reads
-use Rattle.fifo.proofs.Fifo.insert.Lts as lts
-use Rattle.fifo.proofs.Fifo.used.Reads as used-reads
-use Rattle.fifo.proofs.copied.Reads as copied-reads
 
 -- src/lib.rt:95:13
 used-requires : tie.Need-used-requires
