@@ -1,0 +1,75 @@
+// Calls cut after every number of stores, then recoveries cut after every number of stores, on chips of several sizes.
+mod back;
+mod cuts;
+mod plain;
+mod run;
+
+use model::Sizes;
+
+// The smallest chip.
+fn one_page() {
+    let z = Sizes {
+        s: 4,
+        p: 1,
+        c: 3,
+        b: 1,
+        r: 1,
+        w: 1,
+    };
+    let mut flash = [0u8; 12];
+    let mut spare = [0u8; 48];
+    let mut disk = [0u8; 4];
+    cuts::cut_all(z, &mut flash, &mut spare, &mut disk);
+}
+
+fn two_pages() {
+    let z = Sizes {
+        s: 4,
+        p: 2,
+        c: 8,
+        b: 3,
+        r: 1,
+        w: 2,
+    };
+    let mut flash = [0u8; 64];
+    let mut spare = [0u8; 256];
+    let mut disk = [0u8; 24];
+    cuts::cut_all(z, &mut flash, &mut spare, &mut disk);
+}
+
+fn odd_pages() {
+    let z = Sizes {
+        s: 5,
+        p: 3,
+        c: 9,
+        b: 3,
+        r: 2,
+        w: 1,
+    };
+    let mut flash = [0u8; 135];
+    let mut spare = [0u8; 432];
+    let mut disk = [0u8; 45];
+    cuts::cut_all(z, &mut flash, &mut spare, &mut disk);
+}
+
+fn four_pages() {
+    let z = Sizes {
+        s: 16,
+        p: 4,
+        c: 12,
+        b: 4,
+        r: 1,
+        w: 2,
+    };
+    let mut flash = [0u8; 768];
+    let mut spare = [0u8; 768];
+    let mut disk = [0u8; 256];
+    cuts::cut_all(z, &mut flash, &mut spare, &mut disk);
+}
+
+fn main() {
+    one_page();
+    two_pages();
+    odd_pages();
+    four_pages();
+}
