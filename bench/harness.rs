@@ -1,0 +1,351 @@
+//! The proved engine and the plain Rust one, given the same calls in one process.
+//!
+//! `harness rows` prints the rows with what they are. `harness time REPEATS`
+//! times every row and prints `ROW PROVED RUST` in nanoseconds of a call for each
+//! repeat. `harness run ROW proved|rust COUNT` makes one run and times nothing,
+//! for a count of instructions.
+
+use oracle::device::Lent;
+use oracle::engine;
+use oracle::sizes::Sizes;
+use oracle::state::State;
+
+/// Never cuts: no operation makes as many stores.
+const PLENTY: u64 = 65_535;
+
+/// The functions of the crate `bench`, all of one form. A lent area is a pointer and a length.
+macro_rules! exported {
+    ($($name:ident)*) => {
+        #[link(name = "bench")]
+        extern "C" {
+            $(fn $name(
+                n: usize, s: usize, b: usize, before: usize, spread: u16,
+                page: *mut u8, page_length: usize, flash: *mut u8, flash_length: usize,
+                spare: *mut u8, spare_length: usize, disk: *mut u8, disk_length: usize,
+            ) -> usize;)*
+        }
+    };
+}
+
+exported!(bench_writes bench_reads bench_drains bench_recoveries);
+
+#[derive(Clone, Copy)]
+enum Work {
+    Writes,
+    Reads,
+    /// Each a write to every one of the back-end buckets, and the drain.
+    Drains,
+    /// Of the image that the writes before leave.
+    Recoveries,
+}
+
+struct Row {
+    name: &'static str,
+    what: &'static str,
+    page_bytes: usize,
+    back_end_buckets: usize,
+    work: Work,
+    /// Calls before those that are timed.
+    before: usize,
+    /// Back-end buckets that take turns.
+    spread: u16,
+    /// Calls that are timed.
+    count: usize,
+}
+
+/// The largest sizes; 128 back-end buckets are twice what a queue holds.
+const LARGE: Row = Row {
+    name: "",
+    what: "",
+    page_bytes: 1024,
+    back_end_buckets: 128,
+    work: Work::Writes,
+    before: 0,
+    spread: 128,
+    count: 1000,
+};
+
+/// Pages of 4 bytes, so that the disk of 65,535 back-end buckets is 16 MiB.
+const SMALL: Row = Row {
+    page_bytes: 4,
+    work: Work::Recoveries,
+    before: 4,
+    spread: 4,
+    ..LARGE
+};
+
+const ROWS: [Row; 9] = [
+    Row {
+        name: "write",
+        what: "a log of 1,024 bytes, behind others of its back-end bucket",
+        before: 16,
+        spread: 16,
+        ..LARGE
+    },
+    Row {
+        name: "write, evicting",
+        what: "a log of 1,024 bytes, 128 back-end buckets in turn: each evicts another's bucket",
+        before: 256,
+        ..LARGE
+    },
+    Row {
+        name: "read hit",
+        what: "1,024 bytes of a copy on the chip",
+        work: Work::Reads,
+        before: 1,
+        spread: 1,
+        ..LARGE
+    },
+    Row {
+        name: "read miss, evicting",
+        what: "1,024 bytes, 128 back-end buckets in turn: each drops a copy and programs one",
+        work: Work::Reads,
+        before: 256,
+        ..LARGE
+    },
+    Row {
+        name: "drain",
+        what: "64 writes to as many back-end buckets, and the drain of them",
+        work: Work::Drains,
+        spread: 64,
+        before: 4,
+        count: 10,
+        ..LARGE
+    },
+    Row {
+        name: "recover, 4 occupied",
+        what: "an image with 4 cache buckets in use",
+        work: Work::Recoveries,
+        before: 4,
+        spread: 4,
+        ..LARGE
+    },
+    Row {
+        name: "recover, 256 occupied",
+        what: "an image with all 256 in use, most of them superseded",
+        work: Work::Recoveries,
+        before: 400,
+        count: 50,
+        ..LARGE
+    },
+    Row {
+        name: "recover, B 64",
+        what: "S 4, an image with 4 cache buckets in use",
+        back_end_buckets: 64,
+        ..SMALL
+    },
+    Row {
+        name: "recover, B 65,535",
+        what: "S 4, an image with 4 cache buckets in use",
+        back_end_buckets: 65_535,
+        ..SMALL
+    },
+];
+
+impl Row {
+    fn sizes(&self) -> Sizes {
+        Sizes {
+            page_bytes: self.page_bytes,
+            bucket_pages: 64,
+            cache_buckets: 256,
+            back_end_buckets: self.back_end_buckets,
+            read_limit: 64,
+            write_limit: 64,
+        }
+    }
+}
+
+/// Chip, disk, and a page's bytes to write or to read into; one set for each engine.
+#[derive(PartialEq)]
+struct Areas {
+    flash: Vec<u8>,
+    spare: Vec<u8>,
+    disk: Vec<u8>,
+    page: Vec<u8>,
+}
+
+impl Areas {
+    fn new(sizes: &Sizes) -> Areas {
+        Areas {
+            flash: vec![0; sizes.data_bytes()],
+            spare: vec![0; sizes.spare_bytes()],
+            disk: (0..sizes.disk_bytes()).map(|i| i as u8).collect(),
+            page: (0..sizes.page_bytes).map(|i| !i as u8).collect(),
+        }
+    }
+
+    fn lent(&mut self) -> Lent<'_> {
+        Lent {
+            data: &mut self.flash,
+            spare: &mut self.spare,
+            disk: &mut self.disk,
+        }
+    }
+}
+
+/// Formats, makes the calls before and `count` more, and gives the stores made after the format.
+type Engine = fn(&Row, usize, &mut Areas) -> usize;
+
+fn proved(row: &Row, count: usize, areas: &mut Areas) -> usize {
+    let function = match row.work {
+        Work::Writes => bench_writes,
+        Work::Reads => bench_reads,
+        Work::Drains => bench_drains,
+        Work::Recoveries => bench_recoveries,
+    };
+    // Each pointer and length are those of a whole vector.
+    unsafe {
+        function(
+            count,
+            row.page_bytes,
+            row.back_end_buckets,
+            row.before,
+            row.spread,
+            areas.page.as_mut_ptr(),
+            areas.page.len(),
+            areas.flash.as_mut_ptr(),
+            areas.flash.len(),
+            areas.spare.as_mut_ptr(),
+            areas.spare.len(),
+            areas.disk.as_mut_ptr(),
+            areas.disk.len(),
+        )
+    }
+}
+
+fn plain(row: &Row, count: usize, areas: &mut Areas) -> usize {
+    let formatted = engine::format(State::default(), row.sizes(), areas.lent(), PLENTY);
+    let mut run = Plain {
+        row,
+        areas,
+        state: formatted.state,
+        stores: 0,
+    };
+    match row.work {
+        Work::Writes => [row.before, count].map(|n| run.writes(n)),
+        Work::Reads => [row.before, count].map(|n| run.reads(n)),
+        Work::Drains => [row.before, count].map(|n| run.drains(n)),
+        Work::Recoveries => [run.writes(row.before), run.recoveries(count)],
+    };
+    run.stores
+}
+
+/// The plain engine at work.
+struct Plain<'a> {
+    row: &'a Row,
+    areas: &'a mut Areas,
+    state: State,
+    stores: usize,
+}
+
+impl Plain<'_> {
+    /// The state goes into the call and is handed back by it.
+    fn call(&mut self, operation: impl FnOnce(State, &mut Areas) -> engine::Outcome) {
+        let outcome = operation(std::mem::take(&mut self.state), self.areas);
+        self.stores += outcome.stores as usize;
+        self.state = outcome.state;
+    }
+
+    fn writes(&mut self, n: usize) {
+        let data = self.areas.page.clone();
+        for i in 0..n {
+            let bucket = i % self.row.spread as usize;
+            self.call(|state, areas| engine::write(state, areas.lent(), PLENTY, bucket, 0, &data));
+        }
+    }
+
+    fn reads(&mut self, n: usize) {
+        let mut buffer = std::mem::take(&mut self.areas.page);
+        for i in 0..n {
+            let bucket = i % self.row.spread as usize;
+            self.call(|state, areas| {
+                engine::read(state, areas.lent(), PLENTY, bucket, 0, &mut buffer)
+            });
+        }
+        self.areas.page = buffer;
+    }
+
+    fn drains(&mut self, n: usize) {
+        for _ in 0..n {
+            self.writes(self.row.spread as usize);
+            self.call(|state, areas| engine::drain(state, areas.lent(), PLENTY));
+        }
+    }
+
+    fn recoveries(&mut self, n: usize) {
+        let sizes = self.row.sizes();
+        for _ in 0..n {
+            self.call(|state, areas| engine::recover(state, sizes, areas.lent(), PLENTY));
+        }
+    }
+}
+
+extern "C" {
+    fn clock_gettime(clock: i32, time: *mut [i64; 2]) -> i32;
+}
+
+/// Nanoseconds of processor time so far: other work on the machine is not in it.
+fn processor_time() -> f64 {
+    const PROCESS: i32 = 2;
+    let mut time = [0, 0];
+    let status = unsafe { clock_gettime(PROCESS, &mut time) };
+    assert_eq!(status, 0, "no clock of processor time");
+    time[0] as f64 * 1e9 + time[1] as f64
+}
+
+/// Nanoseconds of one run, and its sum of stores.
+fn timed(engine: Engine, row: &Row, count: usize, areas: &mut Areas) -> (f64, usize) {
+    let begin = processor_time();
+    let stores = engine(row, count, areas);
+    (processor_time() - begin, stores)
+}
+
+/// Nanoseconds of one call in each engine: a run less one without the calls that are timed.
+fn repeat(row: &Row, one: &mut Areas, other: &mut Areas) -> (f64, f64) {
+    let (one_before, _) = timed(proved, row, 0, one);
+    let (other_before, _) = timed(plain, row, 0, other);
+    let (one_all, one_stores) = timed(proved, row, row.count, one);
+    let (other_all, other_stores) = timed(plain, row, row.count, other);
+    assert_eq!(one_stores, other_stores, "{}: stores differ", row.name);
+    assert!(
+        one == other,
+        "{}: chip, disk or bytes read differ",
+        row.name
+    );
+    let count = row.count as f64;
+    (
+        (one_all - one_before) / count,
+        (other_all - other_before) / count,
+    )
+}
+
+fn time_rows(repeats: usize) {
+    for row in &ROWS {
+        let mut one = Areas::new(&row.sizes());
+        let mut other = Areas::new(&row.sizes());
+        for _ in 0..repeats {
+            let (proved, rust) = repeat(row, &mut one, &mut other);
+            println!("{}\t{proved:.0}\t{rust:.0}", row.name);
+        }
+    }
+}
+
+fn run_once(name: &str, engine: &str, count: usize) {
+    let row = ROWS.iter().find(|row| row.name == name).expect("a row");
+    let engine = if engine == "proved" { proved } else { plain };
+    println!("{}", engine(row, count, &mut Areas::new(&row.sizes())));
+}
+
+fn main() {
+    let words: Vec<String> = std::env::args().skip(1).collect();
+    match words.iter().map(String::as_str).collect::<Vec<_>>()[..] {
+        ["rows"] => ROWS
+            .iter()
+            .for_each(|row| println!("{}\t{}", row.name, row.what)),
+        ["time", repeats] => time_rows(repeats.parse().expect("a count")),
+        ["run", name, engine @ ("proved" | "rust"), count] => {
+            run_once(name, engine, count.parse().expect("a count"))
+        }
+        _ => panic!("usage: harness rows | time REPEATS | run ROW proved|rust COUNT"),
+    }
+}

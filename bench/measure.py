@@ -1,0 +1,79 @@
+"""Times and instruction counts of the proved engine and the Rust one, row by row."""
+
+import collections
+import re
+import resource
+import statistics
+import subprocess
+
+# Seconds of each repeat on either side, and the instructions of one call or line.
+Row = collections.namedtuple("Row", "name what proved rust proved_count rust_count")
+
+
+def ratio(row):
+    """The ratio of the medians: what a row is judged by."""
+    return statistics.median(row.proved) / statistics.median(row.rust)
+
+
+def spread(row):
+    """The least and the greatest ratio of one repeat: how noisy the row is."""
+    ratios = [one / other for one, other in zip(row.proved, row.rust)]
+    return min(ratios), max(ratios)
+
+
+def count_ratio(row):
+    """The ratio of the instruction counts."""
+    return row.proved_count / row.rust_count
+
+
+def instructions(command, text=b""):
+    """Instructions of one run: the same each time, whatever else the machine does."""
+    done = subprocess.run(
+        ["valgrind", "--tool=callgrind", "--callgrind-out-file=/dev/null", *command],
+        input=text, stdout=subprocess.DEVNULL, stderr=subprocess.PIPE, check=True)
+    return int(re.search(rb"Collected : (\d+)", done.stderr).group(1))
+
+
+# The engine by itself: the harness makes the calls.
+
+def engine_rows(harness, repeats, count):
+    """The rows of the harness, with the instructions of a few calls of each."""
+    described = [line.split("\t") for line in lines_of([harness, "rows"])]
+    times = collections.defaultdict(list)
+    for line in lines_of([harness, "time", str(repeats)]):
+        name, proved, rust = line.split("\t")
+        times[name].append((float(proved) * 1e-9, float(rust) * 1e-9))
+    return [Row(name, what, *zip(*times[name]), call_instructions(harness, name, "proved", count),
+                call_instructions(harness, name, "rust", count)) for name, what in described]
+
+
+def lines_of(command):
+    """What a command prints, line by line."""
+    return subprocess.run(command, stdout=subprocess.PIPE, check=True, text=True).stdout.splitlines()
+
+
+def call_instructions(harness, name, engine, count):
+    """Instructions of one call: a run less one without the calls."""
+    before, after = (instructions([harness, "run", name, engine, str(n)]) for n in (0, count))
+    return (after - before) / count
+
+
+# The driving programs: the same input to both.
+
+def driving_row(name, what, programs, text, repeats, counted):
+    """One input given to both programs in turn; `counted` is a shorter one for the instructions."""
+    outputs = {subprocess.run([program], input=text, stdout=subprocess.PIPE, check=True).stdout
+               for program in programs}
+    if len(outputs) != 1:
+        raise SystemExit(f"{name}: the two programs print different bytes")
+    times = [[cpu_seconds(program, text) for program in programs] for _ in range(repeats)]
+    lines = counted.count(b"\n")
+    return Row(name, what, *zip(*times), *(instructions([program], counted) / lines for program in programs))
+
+
+def cpu_seconds(program, text):
+    """User and system time of one run: other work on the machine is not in it."""
+    before = resource.getrusage(resource.RUSAGE_CHILDREN)
+    subprocess.run([program], input=text, stdout=subprocess.DEVNULL, check=True)
+    after = resource.getrusage(resource.RUSAGE_CHILDREN)
+    return after.ru_utime - before.ru_utime + after.ru_stime - before.ru_stime
