@@ -1,0 +1,65 @@
+-- Bytes of one line, taken from a piece one after the other, and laid behind those that are held.
+use mathlib.Core.Path.{_≡_, sym, ap, _∙_}
+use mathlib.Core.List.{List, [], _∷_, _++_, append-assoc, append-nil}
+use Prim.Native.Nat.{ℕ, suc, _+_, _-_, _<_, _≤_}
+use native.Mathlib.Omega.{arith}
+use native.Mathlib.Nat.{zero-add}
+use native.Mathlib.Numerals.{add-one}
+use borrow.Author.Tests.{ne-eqb}
+use lib.ListN.{length, take, drop, getD, length-drop, length-append}
+use lib.Seq.{take-suc, drop-cons, getD-drop, take-at, take-append-le, length-take-le}
+use Rattle.lists.specs.Lists.{splice, part}
+use Rattle.model.specs.Driving.{linesFrom}
+use Rattle.input.specs.Ahead.{OneLine}
+
+module _ (piece : List ℕ) (from : ℕ) where
+  pub line-begun : OneLine piece from from
+  unfolding part
+  line-begun line rest = let e : from - from ≡ 0 = omega arith in rw (e, append-nil line)
+
+  module _ (end : ℕ) (low : from ≤ end) (high : end < length piece) where
+    one-more : part piece from (end - from) ++ (getD piece end 0 ∷ []) ≡ part piece from (end + 1 - from)
+    unfolding part
+    one-more =
+        let e : end + 1 - from ≡ suc (end - from) = omega arith in
+        let at : from + (end - from) ≡ end = omega arith in
+        let g : getD (drop from piece) (end - from) 0 ≡ getD piece end 0 = getD-drop from piece (end - from) 0 ∙ ap (λ (i : ℕ). getD piece i 0) at in
+        rw (e, take-suc (drop from piece) (end - from) 0 (omega (arith, length-drop from piece)), g)
+
+    pub line-more : (getD piece end 0 ≡ 10 → ⊥) → OneLine piece from end → OneLine piece from (end + 1)
+    unfolding linesFrom
+    line-more other before line rest =
+        before line rest
+        ∙ rw (drop-cons piece end 0 high, ne-eqb (getD piece end 0) 10 other, append-assoc line (part piece from (end - from)) (getD piece end 0 ∷ []), one-more, add-one end)
+
+-- what is held of a line, with more bytes written behind it
+pub held-more : (line : List ℕ) (held : ℕ) (bytes : List ℕ) → held + length bytes ≤ length line → take (held + length bytes) (splice line held bytes) ≡ take held line ++ bytes
+unfolding splice
+held-more line held bytes h =
+    let e : length (take held line) ≡ held = length-take-le held line (omega arith) in
+    let l : length (take held line ++ bytes) ≡ held + length bytes = length-append (take held line) bytes ∙ ap (λ (n : ℕ). n + length bytes) e in
+    ap (take (held + length bytes)) (sym (append-assoc (take held line) bytes (drop (held + length bytes) line)))
+    ∙ take-at (take held line ++ bytes) (drop (held + length bytes) line) (held + length bytes) l
+
+-- what is printed, with a text behind it
+pub take-behind : (front back rest : List ℕ) (n : ℕ) → n ≤ length back → take (length front + n) (front ++ (back ++ rest)) ≡ front ++ take n back
+take-behind [] back rest n h = rw (zero-add n) (take-append-le n back rest h)
+take-behind (x ∷ front) back rest n h =
+    let e : suc (length front) + n ≡ suc (length front + n) = omega arith in
+    rw e (ap (λ (l : List ℕ). x ∷ l) (take-behind front back rest n h))
+
+pub behind-inside : (out back rest : List ℕ) (at n : ℕ) → at ≤ length out → n ≤ length back → at + n ≤ length (take at out ++ (back ++ rest))
+behind-inside out back rest at n h k =
+    let e : length (take at out) ≡ at = length-take-le at out h in
+    omega (arith, length-append (take at out) (back ++ rest), length-append back rest)
+
+-- the bytes that are too many are left out
+pub held-cut : (line : List ℕ) (held : ℕ) (bytes : List ℕ) → length line ≡ 513 → held ≤ 513 → 513 - held ≤ length bytes
+    → take 513 (splice line held (take (513 - held) bytes)) ≡ take 513 (take held line ++ bytes)
+held-cut line held bytes l h b =
+    let e : length (take held line) ≡ held = length-take-le held line (omega arith) in
+    let k : length (take (513 - held) bytes) ≡ 513 - held = length-take-le (513 - held) bytes b in
+    let s : held + length (take (513 - held) bytes) ≡ 513 = omega arith in
+    let f : length (take held line) + (513 - held) ≡ 513 = omega arith in
+    (rw s at (held-more line held (take (513 - held) bytes) (omega arith)))
+    ∙ sym (rw (f, append-nil bytes) at (take-behind (take held line) bytes [] (513 - held) b))

@@ -1,0 +1,35 @@
+-- How far the program has come with its input.
+use Prim.Native.Nat.{ℕ, _-_, _≤_}
+use mathlib.Core.Path.{_≡_}
+use mathlib.Core.List.{List, _++_}
+use lib.ListN.{length, take, drop}
+use Rattle.lists.specs.Lists.{part}
+use Rattle.model.specs.Driving.{Printed, onLine, linesFrom, onLines}
+use Rattle.calls.specs.Arrays.{Arrays}
+use Rattle.drive.specs.Recorder.{recorderOf, Ready}
+use Rattle.input.specs.declared.Walk.{Walk}
+
+-- the whole output from here on, what is printed and not yet written first, if the rest of the input is this
+unfoldable pub ahead : Walk → (line flash spare disk out rest : List ℕ) → List ℕ
+ahead w line flash spare disk out rest = take (w .printed) out ++ onLines (recorderOf (w .recorder) flash spare disk) (linesFrom (take (w .held) line) rest)
+
+-- the recorder, and what is printed and not yet written
+abbrev pub shownOf : Walk → (flash spare disk out : List ℕ) → Printed
+shownOf w flash spare disk out = record { recorder = recorderOf (w .recorder) flash spare disk; text = take (w .printed) out }
+
+-- the same after a further line
+unfoldable pub lineShown : Printed → List ℕ → Printed
+lineShown p line = let q = onLine (p .recorder) line in record { recorder = q .recorder; text = p .text ++ q .text }
+
+-- the bytes of a piece from one place to another are of one line
+abbrev pub OneLine : (piece : List ℕ) → (from end : ℕ) → Type 0
+OneLine piece from end = (line rest : List ℕ) → linesFrom line (drop from piece ++ rest) ≡ linesFrom (line ++ part piece from (end - from)) (drop end piece ++ rest)
+
+-- what holds from step to step
+pub record Sound (w : Walk) (line buffer flash spare disk out : List ℕ) : Type 0 where
+  pub ready : Ready (w .recorder .formatted) (w .recorder .sizes)
+  pub arrays : Arrays flash spare disk
+  pub line-room : length line ≡ 513
+  pub held-room : w .held ≤ 513
+  pub buffer-room : 65535 ≤ length buffer
+  pub printed-room : w .printed ≤ length out

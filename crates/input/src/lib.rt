@@ -1,0 +1,178 @@
+// The program's input, taken in pieces: bytes are gathered into lines, and each line is walked once it is whole.
+use drive::Recorder;
+use fifo::Fifo;
+use model::Sizes;
+use queue::Queue;
+use state::State;
+ghost use mathlib.Core.Path.{_≡_};
+ghost use mathlib.Core.List.{List, [], _++_};
+ghost use Prim.Native.Nat.{ℕ, _+_, _<_, _≤_};
+ghost use lib.ListN.{length, take, drop, getD, replicate};
+ghost use Rattle.model.specs.Driving.{output};
+ghost use Rattle.calls.specs.Arrays.{Arrays};
+ghost use Rattle.drive.specs.Recorder.{Ready};
+ghost use Rattle.input.specs.Ahead.{shownOf, lineShown, OneLine, ahead, Sound};
+
+// How far the program has come.
+pub struct Walk {
+    pub recorder: Recorder,
+    // the bytes held of a line that is not whole yet
+    pub held: usize,
+    // the bytes passed of the piece
+    pub passed: usize,
+    // the characters printed and not yet written
+    pub printed: usize,
+}
+
+// Where the line ends: at the next line feed, or with the piece.
+fn line_end(piece: &[u8], from: usize) -> usize
+    requires { ⌜ from ≤ length (now piece) ⌝ }
+    ensures { λ r. ⌜ (from ≤ r) × (r ≤ length (now (piece .entry))) × (r < length (now (piece .entry)) → getD (now (piece .entry)) r 0 ≡ 10) ⌝ }
+    ensures { λ r. ⌜ OneLine (now (piece .entry)) from r ⌝ }
+{
+    let mut end = from;
+    while end < piece.len() {
+        if piece[end] == 10 {
+            return end;
+        }
+        end += 1;
+    }
+    end
+}
+
+// More bytes of the line. It is cut at 513, for any longer line is F0 too.
+fn gather(line: &mut [u8], held: usize, bytes: &[u8]) -> usize
+    requires { ⌜ (length (now line) ≡ 513) × (held ≤ 513) ⌝ }
+    ensures { λ r. ⌜ (r ≤ 513) × (take r (now (line .exit)) ≡ take 513 (take held (now (line .entry)) ++ now (bytes .entry))) ⌝ }
+{
+    let room = 513 - held;
+    if bytes.len() <= room {
+        area::write_at(line, held, bytes);
+        return held + bytes.len();
+    }
+    area::write_at(line, held, &bytes[..room]);
+    513
+}
+
+// A whole line. Its text stands behind what is printed already.
+fn walk_line(
+    w: Walk,
+    line: &[u8],
+    buffer: &mut [u8],
+    flash: &mut [u8],
+    spare: &mut [u8],
+    disk: &mut [u8],
+    out: &mut [u8],
+) -> Walk
+    requires { ⌜ Arrays (now flash) (now spare) (now disk) × Ready (w .recorder .formatted) (w .recorder .sizes) ⌝ }
+    requires { ⌜ (65535 ≤ length (now buffer)) × (w .printed + 32775 ≤ length (now out)) ⌝ }
+    ensures { λ r. ⌜ shownOf r (now (flash .exit)) (now (spare .exit)) (now (disk .exit)) (now (out .exit)) ≡ lineShown (shownOf w (now (flash .entry)) (now (spare .entry)) (now (disk .entry)) (now (out .entry))) (now (line .entry)) ⌝ }
+    ensures { λ r. ⌜ (r .held ≡ 0) × (r .passed ≡ w .passed) × Ready (r .recorder .formatted) (r .recorder .sizes) × (r .printed ≤ length (now (out .exit))) ⌝ }
+{
+    let printed = w.printed;
+    let walked = drive::on_line(
+        w.recorder,
+        line,
+        buffer,
+        flash,
+        spare,
+        disk,
+        &mut out[printed..],
+    );
+    let recorder = walked.recorder;
+    Walk {
+        recorder,
+        held: 0,
+        passed: w.passed,
+        printed: printed + walked.length,
+    }
+}
+
+// Up to the end of a line, which is then walked, or of the piece.
+pub fn advance(
+    w: Walk,
+    piece: &[u8],
+    line: &mut [u8],
+    buffer: &mut [u8],
+    flash: &mut [u8],
+    spare: &mut [u8],
+    disk: &mut [u8],
+    out: &mut [u8],
+) -> Walk
+    requires { ⌜ Sound w (now line) (now buffer) (now flash) (now spare) (now disk) (now out) ⌝ }
+    requires { ⌜ (w .passed < length (now piece)) × (w .printed + 32775 ≤ length (now out)) ⌝ }
+    ensures { λ r. ⌜ ((rest : List ℕ) → ahead r (now (line .exit)) (now (flash .exit)) (now (spare .exit)) (now (disk .exit)) (now (out .exit)) (drop (r .passed) (now (piece .entry)) ++ rest) ≡ ahead w (now (line .entry)) (now (flash .entry)) (now (spare .entry)) (now (disk .entry)) (now (out .entry)) (drop (w .passed) (now (piece .entry)) ++ rest)) ⌝ }
+    ensures { λ r. ⌜ Sound r (now (line .exit)) (now (buffer .exit)) (now (flash .exit)) (now (spare .exit)) (now (disk .exit)) (now (out .exit)) × (w .passed < r .passed) × (r .passed ≤ length (now (piece .entry))) ⌝ }
+{
+    let from = w.passed;
+    let end = line_end(piece, from);
+    let held = gather(line, w.held, &piece[from..end]);
+    if end == piece.len() {
+        let mut on = w;
+        on.held = held;
+        on.passed = end;
+        return on;
+    }
+    let next = end + 1;
+    let mut walked = walk_line(w, &line[..held], buffer, flash, spare, disk, out);
+    walked.passed = next;
+    walked
+}
+
+// The end of the input: its last line may lack its line feed.
+pub fn finish(
+    w: Walk,
+    line: &[u8],
+    buffer: &mut [u8],
+    flash: &mut [u8],
+    spare: &mut [u8],
+    disk: &mut [u8],
+    out: &mut [u8],
+) -> Walk
+    requires { ⌜ Sound w (now line) (now buffer) (now flash) (now spare) (now disk) (now out) ⌝ }
+    requires { ⌜ w .printed + 32775 ≤ length (now out) ⌝ }
+    ensures { λ r. ⌜ take (r .printed) (now (out .exit)) ≡ ahead w (now (line .entry)) (now (flash .entry)) (now (spare .entry)) (now (disk .entry)) (now (out .entry)) [] ⌝ }
+    ensures { λ r. ⌜ r .printed ≤ length (now (out .exit)) ⌝ }
+{
+    let held = w.held;
+    if held == 0 {
+        return w;
+    }
+    walk_line(w, &line[..held], buffer, flash, spare, disk, out)
+}
+
+// Nothing read, nothing printed, no format yet.
+pub fn start() -> Walk
+    ensures { λ r. ⌜ ((line out input : List ℕ) → ahead r line (replicate 32768 0) (replicate 32768 0) (replicate 16384 0) out input ≡ output input) ⌝ }
+    ensures { λ r. ⌜ Ready (r .recorder .formatted) (r .recorder .sizes) × (r .held ≡ 0) × (r .printed ≡ 0) ⌝ }
+{
+    let none = Sizes {
+        s: 0,
+        p: 0,
+        c: 0,
+        b: 0,
+        r: 0,
+        w: 0,
+    };
+    let state = State {
+        sizes: none,
+        running: false,
+        reads: Queue::empty(),
+        writes: Queue::empty(),
+        gc: Fifo::empty(),
+        free: Fifo::empty(),
+        accepted: 0,
+        next: 0,
+    };
+    let recorder = Recorder {
+        state,
+        formatted: false,
+        sizes: none,
+    };
+    Walk {
+        recorder,
+        held: 0,
+        passed: 0,
+        printed: 0,
+    }
+}
