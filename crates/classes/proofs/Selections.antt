@@ -3,16 +3,14 @@ use Prim.Native.Nat.{ℕ, _+_, _≤_, _<_}
 use mathlib.Core.Path.{_≡_, refl, sym, ap, _∙_}
 use mathlib.Core.Bool.{Bool, true, false, not, _&&_, _||_, true≢false}
 use mathlib.Core.List.{List, [], _∷_, _++_, append-nil}
-use native.Mathlib.Numerals.{add-one}
 use native.Mathlib.Omega.{arith}
 use lib.ListN.{length, take, getD, length-append}
 use lib.Seq.{getD-take, length-take-le}
 use lib.Dec.{eqb, ltb, eqb·suc-zero}
 use borrow.Author.Tests.{lt-ltb, eq-eqb}
-use Rattle.lists.specs.Lists.{if_then_else_, all, any, keep, below, row, member, times}
+use Rattle.lists.specs.Lists.{if_then_else_, all, any, keep, below, member, times}
 use Rattle.lists.specs.Arrays.{joined}
 use Rattle.lists.proofs.Tests.{and-left, and-right, and-true}
-use Rattle.lists.proofs.Rows.{length-row}
 use Rattle.lists.proofs.Counts.{times-cons, times-self, in-all}
 use Rattle.lists.proofs.Orders.{kept-below, below-kept, in-any, member-in}
 use Rattle.lists.proofs.Arrays.{all-at, keep-step, keep-length, joined-fits}
@@ -116,11 +114,3 @@ member-kept t x n h = go (t x) refl (member x (keep t (below n))) refl
     go true e v q = in-any (eqb x) (keep t (below n)) x (omega (arith, below-kept t x n h e)) (eq-eqb x x refl) ∙ sym e
     go false e true q = absurd (true≢false (sym (kept-below t x n (member-in x (keep t (below n)) q) .0) ∙ e))
     go false e false q = q ∙ sym e
-
-pub below-more : (n : ℕ) → below (n + 1) ≡ below n ++ (n ∷ [])
-unfolding below row
-below-more n = rw (add-one n)
-
-pub length-below : (n : ℕ) → length (below n) ≡ n
-unfolding below
-length-below n = length-row n (λ k. k)

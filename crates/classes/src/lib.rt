@@ -5,7 +5,7 @@ use model::Sizes;
 ghost use mathlib.Core.Path.{_≡_};
 ghost use Prim.Native.Nat.{_<_};
 ghost use lib.ListN.{length};
-ghost use Rattle.lists.specs.Lists.{below, keep};
+ghost use Rattle.lists.specs.Lists.{keep};
 ghost use Rattle.model.specs.Recover.{buckets, givesWay, isChosen, isNoOther, isOnly, isDroppedWrite};
 ghost use Rattle.fifo.specs.View.{listOf};
 ghost use Rattle.image.specs.Chip.{Chip, spareOnly};
@@ -63,10 +63,13 @@ fn gives_way(z: Sizes, c: usize, e: usize, spare: &[u8]) -> bool
     requires { ⌜ e < z .c ⌝ }
     ensures { λ r. ⌜ r ≡ givesWay z (spareOnly (now (spare .entry))) c e ⌝ }
 {
-    let complete = image::complete(z, e, spare);
     let same = image::back_of(z, e, spare) == image::back_of(z, c, spare);
+    if !same {
+        return true;
+    }
+    let complete = image::complete(z, e, spare);
     let newer = image::epoch_of(z, c, spare) < image::epoch_of(z, e, spare);
-    !(complete & same) | !newer
+    !complete | !newer
 }
 
 // Whether c is the newest complete copy of its back-end bucket.
@@ -94,9 +97,11 @@ fn is_no_other(z: Sizes, w: usize, e: usize, spare: &[u8]) -> bool
     requires { ⌜ e < z .c ⌝ }
     ensures { λ r. ⌜ r ≡ isNoOther z (spareOnly (now (spare .entry))) w e ⌝ }
 {
-    let write = image::is_write(z, e, spare);
     let same = image::back_of(z, e, spare) == image::back_of(z, w, spare);
-    !(write & same) | (e == w)
+    if !same {
+        return true;
+    }
+    !image::is_write(z, e, spare) | (e == w)
 }
 
 // Whether w is the only Write bucket of its back-end bucket.
@@ -196,26 +201,12 @@ pub fn selected(z: Sizes, rule: Rule, from: Fifo, list: Fifo, spare: &[u8]) -> F
     kept
 }
 
-// All buckets of the chip.
-fn every_bucket(count: usize) -> Fifo
-    requires { ⌜ count < 257 ⌝ }
-    ensures { λ r. ⌜ listOf r ≡ below count ⌝ }
-{
-    let mut all = Fifo::empty();
-    let mut c = 0;
-    while c < count {
-        all = all.push(c as u8);
-        c += 1;
-    }
-    all
-}
-
 // The buckets of the chip that are such.
 pub fn buckets(z: Sizes, kind: Kind, spare: &[u8]) -> Fifo
     requires { ⌜ Chip z (now spare) ⌝ }
     ensures { λ r. ⌜ listOf r ≡ buckets z (spareOnly (now (spare .entry))) (isKind z (spareOnly (now (spare .entry))) kind) ⌝ }
 {
-    let all = every_bucket(z.c);
+    let all = Fifo::rising(z.c);
     selected(z, Rule::Being(kind), all, all, spare)
 }
 

@@ -4,7 +4,7 @@ ghost use mathlib.Core.List.{[], _∷_, _++_};
 ghost use Prim.Native.Nat.{_+_, _≤_, _<_};
 ghost use lib.ListN.{length, take, drop};
 ghost use lib.Seq.{paste};
-ghost use Rattle.lists.specs.Lists.{head};
+ghost use Rattle.lists.specs.Lists.{below, head};
 ghost use Rattle.lists.specs.Arrays.{joined};
 ghost use Rattle.fifo.specs.View.{listOf, fifoOf};
 
@@ -21,6 +21,20 @@ impl Fifo {
             items: [0; 256],
             len: 0,
         }
+    }
+
+    // The buckets 0, 1, .. count - 1.
+    pub fn rising(count: usize) -> Fifo
+        requires { ⌜ count ≤ 256 ⌝ }
+        ensures { λ r. ⌜ listOf r ≡ below count ⌝ }
+    {
+        let mut items = [0u8; 256];
+        let mut bucket = 0;
+        while bucket < count {
+            items[bucket] = bucket as u8;
+            bucket += 1;
+        }
+        Fifo { items, len: count }
     }
 
     // How many buckets stand in the queue, whatever its length field says.

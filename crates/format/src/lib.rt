@@ -8,14 +8,12 @@ use queue::Queue;
 use state::State;
 ghost use mathlib.Core.Path.{_≡_};
 ghost use mathlib.Core.List.{[], map};
-ghost use Prim.Native.Nat.{_≤_};
 ghost use Rattle.lists.specs.Lists.{below};
 ghost use Rattle.model.specs.Stores.{erase};
 ghost use Rattle.model.specs.Operations.{format};
 ghost use Rattle.model.specs.Calls.{formatCall, carryOut, call};
 ghost use Rattle.geometry.specs.Geometry.{device, Limits, Lent};
 ghost use Rattle.meter.specs.Run.{running, runAll};
-ghost use Rattle.fifo.specs.View.{listOf};
 ghost use Rattle.state.specs.View.{viewOf};
 ghost use Rattle.outcome.specs.Handed.{handedBack, handed};
 
@@ -35,20 +33,6 @@ fn erase_all(meter: Meter, z: Sizes, flash: &mut [u8], spare: &mut [u8], disk: &
     run
 }
 
-// The queue of the buckets 0, 1, .. count - 1.
-fn rising(count: usize) -> Fifo
-    requires { ⌜ count ≤ 256 ⌝ }
-    ensures { λ r. ⌜ listOf r ≡ below count ⌝ }
-{
-    let mut queue = Fifo::empty();
-    let mut bucket = 0;
-    while bucket < count {
-        queue = queue.push(bucket as u8);
-        bucket += 1;
-    }
-    queue
-}
-
 fn formatted(z: Sizes) -> State
     requires { ⌜ Limits z ⌝ }
     ensures { λ r. ⌜ viewOf r ≡ format z .state ⌝ }
@@ -59,7 +43,7 @@ fn formatted(z: Sizes) -> State
         reads: Queue::empty(),
         writes: Queue::empty(),
         gc: Fifo::empty(),
-        free: rising(z.c),
+        free: Fifo::rising(z.c),
         accepted: 0,
         next: 1,
     }

@@ -3,13 +3,14 @@ use Prim.Native.Nat.{ℕ, zero, suc, _+_, _-_, _≤_, _<_, max}
 use mathlib.Core.Path.{_≡_, refl, sym, ap, _∙_}
 use mathlib.Core.Bool.{Bool, true, false, true≢false}
 use mathlib.Core.List.{List, [], _∷_, _++_, map, append-nil, append-assoc}
+use native.Mathlib.Numerals.{add-one}
 use native.Mathlib.Omega.{arith}
 use native.Mathlib.Decide.{ℕ-discrete}
 use lib.ListN.{length, take, getD, length-append, List·getD-append}
 use lib.Seq.{getD-at, take-all, take-nil, take-append-le}
 use lib.Dec.{leb}
 use borrow.Author.Tests.{le-leb, lt-leb}
-use Rattle.lists.specs.Lists.{if_then_else_, row, allBelow, countBelow, maxBelow, concatMap}
+use Rattle.lists.specs.Lists.{if_then_else_, row, below, allBelow, countBelow, maxBelow, concatMap}
 use Rattle.lists.proofs.Tests.{and-left, and-right, and-true}
 
 -- ---- rows
@@ -36,6 +37,14 @@ take-row (suc n) f m h = go (ℕ-discrete m (suc n)) (take-row n f m)
     go : Dec (m ≡ suc n) → (m ≤ n → take m (row n f) ≡ row m f) → take m (row n f ++ (f n ∷ [])) ≡ row m f
     go (yes e) r = take-all m (row n f ++ (f n ∷ [])) (omega (arith, length-row (suc n) f)) ∙ sym (ap (λ (k : ℕ). row k f) e)
     go (no ne) r = take-append-le m (row n f) (f n ∷ []) (omega (arith, length-row n f)) ∙ r (omega arith)
+
+pub below-more : (n : ℕ) → below (n + 1) ≡ below n ++ (n ∷ [])
+unfolding below row
+below-more n = rw (add-one n)
+
+pub length-below : (n : ℕ) → length (below n) ≡ n
+unfolding below
+length-below n = length-row n (λ k. k)
 
 pub map-append : {A B : Type 0} (f : A → B) (xs ys : List A) → map f (xs ++ ys) ≡ map f xs ++ map f ys
 map-append f [] ys = refl

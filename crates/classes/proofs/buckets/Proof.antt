@@ -8,18 +8,15 @@ use borrow.Author.Needs.{needs}
 use Rattle.classes.proofs.buckets.Statement.{statement}
 use Rattle.classes.proofs.buckets.Tie as tie
 
--- src/lib.rt:218:9
-every-bucket-requires : tie.Need-every-bucket-requires
-every-bucket-requires c κs = search needs
+rising-requires : tie.Need-rising-requires
+rising-requires c κs = search needs
 
--- src/lib.rt:219:5
 selected-requires : tie.Need-selected-requires
-selected-requires c κs = let all = within-as (c .before .before .args .z) (c .every-bucket .ensures) (below-within (c .before .before .args .z)) in (c .before .before .pre, (all, all))
+selected-requires c κs = let all = within-as (c .before .before .args .z) (c .rising .ensures) (below-within (c .before .before .args .z)) in (c .before .before .pre, (all, all))
 
--- src/lib.rt:214:1
 returns : tie.Need-returns
 unfolding buckets
-returns c = let x = c .before .before .before .args in c .selected .ensures ∙ ap (keep (isKind (x .z) (spareOnly (x .spare .now)) (x .kind))) (c .before .every-bucket .ensures)
+returns c = let x = c .before .before .before .args in c .selected .ensures ∙ ap (keep (isKind (x .z) (spareOnly (x .spare .now)) (x .kind))) (c .before .rising .ensures)
 
 pub buckets-spec : {M : Type 1} → statement M
-buckets-spec = tie.close (tie.spec every-bucket-requires selected-requires returns)
+buckets-spec = tie.close (tie.spec rising-requires selected-requires returns)

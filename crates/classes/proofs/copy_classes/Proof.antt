@@ -8,31 +8,26 @@ use borrow.Author.Needs.{needs}
 use Rattle.classes.proofs.copy_classes.Statement.{statement}
 use Rattle.classes.proofs.copy_classes.Tie as tie
 
--- src/lib.rt:239:9
 buckets-requires : tie.Need-buckets-requires
 buckets-requires c κs = search needs
 
--- src/lib.rt:240:9
 selected-requires : tie.Need-selected-requires
 selected-requires c κs = let x = c .before .before .args in
     let d = spareOnly (x .spare .now) in
     (c .before .before .pre .0, (within-as (x .z) (c .buckets .ensures) (buckets-within (x .z) d (isChosen (x .z) d)), within-as (x .z) (c .before .before .pre .1) (buckets-within (x .z) d (isDroppedWrite (x .z) d))))
 
--- src/lib.rt:241:9
 selected-requires-2 : tie.Need-selected-requires-2
 selected-requires-2 c κs = let x = c .before .before .before .args in
     let d = spareOnly (x .spare .now) in
     let left = within-as (x .z) (copies-remaining (x .z) d (c .before .buckets .ensures) (c .before .before .before .pre .1) (c .selected .ensures)) (buckets-within (x .z) d (isRemaining (x .z) d)) in
     (c .before .before .before .pre .0, (left, left))
 
--- src/lib.rt:242:9
 selected-requires-3 : tie.Need-selected-requires-3
 selected-requires-3 c κs = let x = c .before .before .before .before .args in
     let d = spareOnly (x .spare .now) in
     let left = copies-remaining (x .z) d (c .before .before .buckets .ensures) (c .before .before .before .before .pre .1) (c .before .selected .ensures) in
     (c .before .before .before .before .pre .0, (within-as (x .z) (c .before .before .buckets .ensures) (buckets-within (x .z) d (isChosen (x .z) d)), within-as (x .z) (copies-kept (x .z) d left (c .selected2 .ensures)) (kept-copies-within (x .z) d)))
 
--- src/lib.rt:243:9
 selected-requires-4 : tie.Need-selected-requires-4
 selected-requires-4 c κs = let x = c .before .before .before .before .before .args in
     let d = spareOnly (x .spare .now) in
@@ -41,17 +36,14 @@ selected-requires-4 c κs = let x = c .before .before .before .before .before .a
     let gone = within-as (x .z) (copies-dropped (x .z) d (c .before .before .before .buckets .ensures) kept (c .selected3 .ensures)) (buckets-within (x .z) d (isDroppedCopy (x .z) d)) in
     (c .before .before .before .before .before .pre .0, (gone, gone))
 
--- src/lib.rt:244:9
 buckets-requires-2 : tie.Need-buckets-requires-2
 buckets-requires-2 c κs = search needs
 
--- src/lib.rt:245:9
 selected-requires-5 : tie.Need-selected-requires-5
 selected-requires-5 c κs = let x = c .before .before .before .before .before .before .before .args in
     let d = spareOnly (x .spare .now) in
     (c .before .before .before .before .before .before .before .pre .0, (within-as (x .z) (c .buckets2 .ensures) (buckets-within (x .z) d (isCopy (x .z) d)), within-as (x .z) (c .before .before .before .before .before .buckets .ensures) (buckets-within (x .z) d (isChosen (x .z) d))))
 
--- src/lib.rt:234:1
 returns : tie.Need-returns
 returns c = let x = c .before .before .before .before .before .before .before .before .args in
     let d = spareOnly (x .spare .now) in

@@ -3,108 +3,82 @@ use borrow.Author.Needs.{needs}
 use Rattle.classes.proofs.is_a.Statement.{statement}
 use Rattle.classes.proofs.is_a.Tie as tie
 
--- src/lib.rt:126:25
 enum-told : tie.Need-enum-told
 enum-told c = search needs
 
--- src/lib.rt:126:25
 used-requires : tie.Need-used-requires
 used-requires c κs = search needs
 
--- src/lib.rt:127:24
 enum-told-2 : tie.Need-enum-told-2
 enum-told-2 c = search needs
 
--- src/lib.rt:127:24
 is-write-requires : tie.Need-is-write-requires
 is-write-requires c κs = search needs
 
--- src/lib.rt:128:23
 enum-told-3 : tie.Need-enum-told-3
 enum-told-3 c = search needs
 
--- src/lib.rt:128:23
 is-copy-requires : tie.Need-is-copy-requires
 is-copy-requires c κs = search needs
 
--- src/lib.rt:129:24
 enum-told-4 : tie.Need-enum-told-4
 enum-told-4 c = search needs
 
--- src/lib.rt:129:24
 is-dirty-requires : tie.Need-is-dirty-requires
 is-dirty-requires c κs = search needs
 
--- src/lib.rt:130:25
 enum-told-5 : tie.Need-enum-told-5
 enum-told-5 c = search needs
 
--- src/lib.rt:130:25
 is-chosen-requires : tie.Need-is-chosen-requires
 is-chosen-requires c κs = search needs
 
--- src/lib.rt:131:23
 enum-told-6 : tie.Need-enum-told-6
 enum-told-6 c = search needs
 
--- src/lib.rt:131:23
 is-only-requires : tie.Need-is-only-requires
 is-only-requires c κs = search needs
 
--- src/lib.rt:132:18
 enum-known-kind : tie.Need-enum-known-kind
 enum-known-kind c = search needs
 
--- src/lib.rt:132:24
 back-of-requires : tie.Need-back-of-requires
 back-of-requires c κs = search needs
 
--- src/lib.rt:133:21
 enum-known-kind-2 : tie.Need-enum-known-kind-2
 enum-known-kind-2 c = search needs
 
--- src/lib.rt:133:39
 epoch-of-requires : tie.Need-epoch-of-requires
 epoch-of-requires c κs = search needs
 
--- src/lib.rt:134:20
 enum-known-kind-3 : tie.Need-enum-known-kind-3
 enum-known-kind-3 c = search needs
 
--- src/lib.rt:120:1
 returns : tie.Need-returns
 unfolding isFree
 returns c = rw (c .before .enum-told .given .1, c .used .ensures)
 
--- src/lib.rt:120:1
 returns-2 : tie.Need-returns-2
 returns-2 c = rw (c .before .enum-told2 .given .1, c .is-write .ensures)
 
--- src/lib.rt:120:1
 returns-3 : tie.Need-returns-3
 returns-3 c = rw (c .before .enum-told3 .given .1, c .is-copy .ensures)
 
--- src/lib.rt:120:1
 returns-4 : tie.Need-returns-4
 returns-4 c = rw (c .before .enum-told4 .given .1, c .is-dirty .ensures)
 
--- src/lib.rt:120:1
 returns-5 : tie.Need-returns-5
 returns-5 c = rw (c .before .enum-told5 .given .1, c .is-chosen .ensures)
 
--- src/lib.rt:120:1
 returns-6 : tie.Need-returns-6
 returns-6 c = rw (c .before .enum-told6 .given .1, c .is-only .ensures)
 
--- src/lib.rt:120:1
 returns-7 : tie.Need-returns-7
 returns-7 c = rw (c .before .before .kind .given .1, c .back-of .ensures)
 
--- src/lib.rt:120:1
 returns-8 : tie.Need-returns-8
 returns-8 c = rw (c .before .before .kind2 .given .1, c .epoch-of .ensures)
 
--- src/lib.rt:120:1
 returns-9 : tie.Need-returns-9
 returns-9 c = rw (c .before .kind3 .given .1)
 

@@ -16,37 +16,29 @@ Inv-loop z c spare newest₀ e₀ newest e = (e ≤ z .c) × (newest ≡ allBelo
 abbrev μ-loop : tie.MeasureT-loop
 μ-loop z c spare newest₀ e₀ newest e = z .c - e
 
--- src/lib.rt:78:9
 complete-requires : tie.Need-complete-requires Inv-loop μ-loop
 complete-requires c κs = search needs
 
--- src/lib.rt:79:9
 returns : tie.Need-returns Inv-loop μ-loop
 unfolding isChosen
 returns c = rw (sym (c .before .complete .ensures) ∙ not-true _ (c .if1 .taken))
 
--- src/lib.rt:83:5
 loop-holds : tie.Need-loop-holds Inv-loop μ-loop
 unfolding allBelow
 loop-holds c = (omega arith, refl)
 
--- src/lib.rt:84:27
 gives-way-requires : tie.Need-gives-way-requires Inv-loop μ-loop
 gives-way-requires c κs = search needs
 
--- src/lib.rt:85:9
 add-e : tie.Need-add-e Inv-loop μ-loop
 add-e c = omega arith
 
--- src/lib.rt:83:5
 loop-less : tie.Need-loop-less Inv-loop μ-loop
 loop-less c = omega arith
 
--- src/lib.rt:83:5
 loop-again : tie.Need-loop-again Inv-loop μ-loop
 loop-again c = (omega arith, rw (c .before .before .before .loop .inv .1, c .gives-way .ensures, all-more))
 
--- src/lib.rt:73:1
 returns-2 : tie.Need-returns-2 Inv-loop μ-loop
 unfolding isChosen
 returns-2 c = let e : c .before .before .loop .e ≡ c .before .before .before .before .before .before .args .z .c = omega arith in rw (sym (c .before .before .before .before .complete .ensures) ∙ not-false _ (c .before .before .before .if1 .left)) (rw e at (c .before .before .loop .inv .1))

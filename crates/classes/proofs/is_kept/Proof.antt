@@ -10,60 +10,46 @@ use borrow.Author.Needs.{needs}
 use Rattle.classes.proofs.is_kept.Statement.{statement}
 use Rattle.classes.proofs.is_kept.Tie as tie
 
--- src/lib.rt:165:21
 enum-known-rule : tie.Need-enum-known-rule
 enum-known-rule c = search needs
 
--- src/lib.rt:165:30
 is-a-requires : tie.Need-is-a-requires
 is-a-requires c κs = search needs
 
--- src/lib.rt:166:34
 enum-told : tie.Need-enum-told
 enum-told c = search needs
 
--- src/lib.rt:166:25
 count-requires : tie.Need-count-requires
 count-requires c κs = search needs
 
--- src/lib.rt:168:17
 enum-told-2 : tie.Need-enum-told-2
 enum-told-2 c = search needs
 
--- src/lib.rt:168:17
 back-of-requires : tie.Need-back-of-requires
 back-of-requires c κs = search needs
 
--- src/lib.rt:169:13
 count-requires-2 : tie.Need-count-requires-2
 count-requires-2 c κs = search needs
 
--- src/lib.rt:171:22
 enum-known-rule-2 : tie.Need-enum-known-rule-2
 enum-known-rule-2 c = search needs
 
--- src/lib.rt:172:17
 epoch-of-requires : tie.Need-epoch-of-requires
 epoch-of-requires c κs = search needs
 
--- src/lib.rt:173:13
 count-requires-3 : tie.Need-count-requires-3
 count-requires-3 c κs = search needs
 
--- src/lib.rt:158:1
 returns : tie.Need-returns
 returns c = rw (c .before .before .rule .given .1) (c .is-a .ensures)
 
--- src/lib.rt:158:1
 returns-2 : tie.Need-returns-2
 unfolding member
 returns-2 c = rw (c .before .enum-told .given .1, c .count .ensures) (count-none (eqb (c .before .before .before .before .args .c)) (listOf (c .before .before .before .before .args .list)))
 
--- src/lib.rt:158:1
 returns-3 : tie.Need-returns-3
 returns-3 c = let x = c .before .before .before .before .before .args in let d = spareOnly (x .spare .now) in rw (c .before .before .enum-told2 .given .1, c .count2 .ensures, c .before .back-of .ensures) (count-none (isOf (x .z) d (backOf (x .z) d (x .c))) (listOf (x .list)))
 
--- src/lib.rt:158:1
 returns-4 : tie.Need-returns-4
 unfolding amongNewest isNewer
 returns-4 c = rw (c .before .before .before .rule2 .given .1, c .count3 .ensures, c .before .epoch-of .ensures)

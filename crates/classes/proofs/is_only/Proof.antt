@@ -16,37 +16,29 @@ Inv-loop z w spare only₀ e₀ only e = (e ≤ z .c) × (only ≡ allBelow e (i
 abbrev μ-loop : tie.MeasureT-loop
 μ-loop z w spare only₀ e₀ only e = z .c - e
 
--- src/lib.rt:108:9
 is-write-requires : tie.Need-is-write-requires Inv-loop μ-loop
 is-write-requires c κs = search needs
 
--- src/lib.rt:109:9
 returns : tie.Need-returns Inv-loop μ-loop
 unfolding isOnly
 returns c = rw (sym (c .before .is-write .ensures) ∙ not-true _ (c .if1 .taken))
 
--- src/lib.rt:113:5
 loop-holds : tie.Need-loop-holds Inv-loop μ-loop
 unfolding allBelow
 loop-holds c = (omega arith, refl)
 
--- src/lib.rt:114:23
 is-no-other-requires : tie.Need-is-no-other-requires Inv-loop μ-loop
 is-no-other-requires c κs = search needs
 
--- src/lib.rt:115:9
 add-e : tie.Need-add-e Inv-loop μ-loop
 add-e c = omega arith
 
--- src/lib.rt:113:5
 loop-less : tie.Need-loop-less Inv-loop μ-loop
 loop-less c = omega arith
 
--- src/lib.rt:113:5
 loop-again : tie.Need-loop-again Inv-loop μ-loop
 loop-again c = (omega arith, rw (c .before .before .before .loop .inv .1, c .is-no-other .ensures, all-more))
 
--- src/lib.rt:103:1
 returns-2 : tie.Need-returns-2 Inv-loop μ-loop
 unfolding isOnly
 returns-2 c = let e : c .before .before .loop .e ≡ c .before .before .before .before .before .before .args .z .c = omega arith in rw (sym (c .before .before .before .before .is-write .ensures) ∙ not-false _ (c .before .before .before .if1 .left)) (rw e at (c .before .before .loop .inv .1))

@@ -20,61 +20,48 @@ Inv-loop z rule list spare n items kept₀ i₀ kept i = (i ≤ n) × (listOf ke
 abbrev μ-loop : tie.MeasureT-loop
 μ-loop z rule list spare n items kept₀ i₀ kept i = n - i
 
--- src/lib.rt:185:9
 used-requires : tie.Need-used-requires Inv-loop μ-loop
 used-requires c κs = search needs
 
--- src/lib.rt:187:9
 empty-requires : tie.Need-empty-requires Inv-loop μ-loop
 empty-requires c κs = search needs
 
--- src/lib.rt:189:5
 loop-holds : tie.Need-loop-holds Inv-loop μ-loop
 unfolding keep padded
 loop-holds c = (omega arith, ap listOf (c .empty .ensures), search needs, search needs)
 
--- src/lib.rt:190:17
 array-read-c : tie.Need-array-read-c Inv-loop μ-loop
 array-read-c c = search needs
 
--- src/lib.rt:191:9
 add-i : tie.Need-add-i Inv-loop μ-loop
 add-i c = omega arith
 
--- src/lib.rt:192:29
 cast-is-kept : tie.Need-cast-is-kept Inv-loop μ-loop
 cast-is-kept c = search needs
 
--- src/lib.rt:192:12
 is-kept-requires : tie.Need-is-kept-requires Inv-loop μ-loop
 is-kept-requires c κs = let start = c .before .before .before .before .before .before in let u = c .before .before .before .before .used in let l = c .before .loop in
     (start .pre .0, (listed (start .args .z) (start .args .«from») (u .result) (l .i) (start .pre .1 .0) (u .ensures .0) (omega (arith, l .inv .2)) (c .loop-test .taken), start .pre .1 .1))
 
--- src/lib.rt:193:13
 push-requires : tie.Need-push-requires Inv-loop μ-loop
 push-requires c κs = search needs
 
--- src/lib.rt:189:5
 loop-less : tie.Need-loop-less Inv-loop μ-loop
 loop-less c = omega arith
 
--- src/lib.rt:189:5
 loop-again : tie.Need-loop-again Inv-loop μ-loop
 loop-again c = let l = c .before .before .before .before .loop in let x = c .before .before .before .before .before .before .before .before .before .args in
     let t = isKept (x .z) (spareOnly (x .spare .now)) (x .rule) (listOf (x .list)) in
     (omega arith, rw (c .push .ensures, l .inv .1) (push-kept t 256 (l .i) (x .«from» .items) 0 (omega arith) (omega (arith, l .inv .2)) (sym (c .before .before .is-kept .ensures) ∙ c .before .if1 .taken)), l .inv .2, l .inv .3)
 
--- src/lib.rt:189:5
 loop-less-2 : tie.Need-loop-less-2 Inv-loop μ-loop
 loop-less-2 c = omega arith
 
--- src/lib.rt:189:5
 loop-again-2 : tie.Need-loop-again-2 Inv-loop μ-loop
 loop-again-2 c = let l = c .before .before .before .loop in let x = c .before .before .before .before .before .before .before .before .args in
     let t = isKept (x .z) (spareOnly (x .spare .now)) (x .rule) (listOf (x .list)) in
     (omega arith, l .inv .1 ∙ pass-kept t (l .i) (x .«from» .items) 0 (omega (arith, l .inv .2)) (sym (c .before .is-kept .ensures) ∙ c .if1 .left), l .inv .2, l .inv .3)
 
--- src/lib.rt:179:1
 returns : tie.Need-returns Inv-loop μ-loop
 returns c = let l = c .before .loop in let x = c .before .before .before .before .before .before .args in let u = c .before .before .before .before .used in
     let e : l .i ≡ u .result = omega arith in

@@ -6,27 +6,22 @@ use borrow.Author.Needs.{needs}
 use Rattle.classes.proofs.write_classes.Statement.{statement}
 use Rattle.classes.proofs.write_classes.Tie as tie
 
--- src/lib.rt:226:9
 buckets-requires : tie.Need-buckets-requires
 buckets-requires c κs = search needs
 
--- src/lib.rt:227:9
 buckets-requires-2 : tie.Need-buckets-requires-2
 buckets-requires-2 c κs = search needs
 
--- src/lib.rt:228:9
 selected-requires : tie.Need-selected-requires
 selected-requires c κs = let x = c .before .before .before .args in
     let only = within-as (x .z) (c .buckets2 .ensures) (buckets-within (x .z) (spareOnly (x .spare .now)) (isOnly (x .z) (spareOnly (x .spare .now)))) in
     (c .before .before .before .pre, (only, only))
 
--- src/lib.rt:229:9
 selected-requires-2 : tie.Need-selected-requires-2
 selected-requires-2 c κs = let x = c .before .before .before .before .args in
     let d = spareOnly (x .spare .now) in
     (c .before .before .before .before .pre, (within-as (x .z) (c .before .before .buckets .ensures) (buckets-within (x .z) d (isWrite (x .z) d)), within-as (x .z) (writes-kept (x .z) d (c .before .buckets2 .ensures) (c .selected .ensures)) (kept-writes-within (x .z) d)))
 
--- src/lib.rt:222:1
 returns : tie.Need-returns
 returns c = let x = c .before .before .before .before .before .args in
     let d = spareOnly (x .spare .now) in
