@@ -42,10 +42,6 @@ pub below-more : (n : ℕ) → below (n + 1) ≡ below n ++ (n ∷ [])
 unfolding below row
 below-more n = rw (add-one n)
 
-pub length-below : (n : ℕ) → length (below n) ≡ n
-unfolding below
-length-below n = length-row n (λ k. k)
-
 pub map-append : {A B : Type 0} (f : A → B) (xs ys : List A) → map f (xs ++ ys) ≡ map f xs ++ map f ys
 map-append f [] ys = refl
 map-append f (x ∷ xs) ys = ap (λ l. f x ∷ l) (map-append f xs ys)

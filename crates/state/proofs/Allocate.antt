@@ -1,7 +1,7 @@
 -- What number 5 says of the queues once it is passed: Allocate always finds a bucket.
 use Prim.Native.Nat.{ℕ, _+_, _≤_, _<_}
 use mathlib.Core.Path.{_≡_, sym, _∙_}
-use mathlib.Core.Bool.{true, false, true≢false}
+use mathlib.Core.Bool.{true, false}
 use mathlib.Core.Logic.{⊎-elim}
 use mathlib.Core.List.{List, [], _∷_, _++_}
 use native.Mathlib.Omega.{arith}
@@ -27,11 +27,6 @@ pub record Queued (s : State) : Type 0 where
 pub head-below : (c : ℕ) (l : List ℕ) → all (isBelow c) l ≡ true → empty l ≡ false → head l < c
 unfolding head isBelow
 head-below c l h e = ltb-true (head l) c (all-at (isBelow c) l h 0 0 (not-empty l e))
-
-moved-head : {c x : ℕ} (l : List ℕ) → empty l ≡ true → x < c → head (l ++ (x ∷ [])) < c
-unfolding head empty
-moved-head [] e h = h
-moved-head (y ∷ l) e h = absurd (true≢false (sym e))
 
 module _ (s : State) where
   pub queued-length : length (queued s) ≡ length (s .reads) + length (s .writes) + length (s .gc) + length (s .free)

@@ -17,44 +17,34 @@ Inv-loop z spare n items numbers₀ i₀ numbers i = (i ≤ n) × (take i number
 abbrev μ-loop : tie.MeasureT-loop
 μ-loop z spare n items numbers₀ i₀ numbers i = n - i
 
--- src/lib.rt:36:9
 used-requires : tie.Need-used-requires Inv-loop μ-loop
 used-requires c κs = search needs
 
--- src/lib.rt:40:5
 loop-holds : tie.Need-loop-holds Inv-loop μ-loop
 loop-holds c = (omega arith, refl, search needs, search needs, search needs)
 
--- src/lib.rt:41:17
 array-read-c : tie.Need-array-read-c Inv-loop μ-loop
 array-read-c c = search needs
 
--- src/lib.rt:41:17
 cast-c : tie.Need-cast-c Inv-loop μ-loop
 cast-c c = search needs
 
--- src/lib.rt:42:22
 back-of-requires : tie.Need-back-of-requires Inv-loop μ-loop
 back-of-requires c κs = let start = c .before .before .before .before .before in let u = c .before .before .before .used in let l = c .before .loop in
     (start .pre .0, listed (start .args .z) (start .args .list) (u .result) (l .i) (start .pre .1) (u .ensures .0) (omega (arith, l .inv .3)) (c .loop-test .taken))
 
--- src/lib.rt:42:9
 mul-numbers : tie.Need-mul-numbers Inv-loop μ-loop
 mul-numbers c = search needs
 
--- src/lib.rt:42:9
 array-write-numbers : tie.Need-array-write-numbers Inv-loop μ-loop
 array-write-numbers c = search needs
 
--- src/lib.rt:43:9
 add-i : tie.Need-add-i Inv-loop μ-loop
 add-i c = omega arith
 
--- src/lib.rt:40:5
 loop-less : tie.Need-loop-less Inv-loop μ-loop
 loop-less c = omega arith
 
--- src/lib.rt:40:5
 loop-again : tie.Need-loop-again Inv-loop μ-loop
 loop-again c = let l = c .before .before .loop in let x = c .before .before .before .before .before .before .args in (
   omega arith,
@@ -64,7 +54,6 @@ loop-again c = let l = c .before .before .loop in let x = c .before .before .bef
   l .inv .4,
 )
 
--- src/lib.rt:30:1
 returns : tie.Need-returns Inv-loop μ-loop
 returns c = let l = c .before .loop in let x = c .before .before .before .before .before .args in let u = c .before .before .before .used in
     let e : l .i ≡ u .result = omega arith in

@@ -5,35 +5,27 @@ use borrow.Author.Needs.{needs}
 use Rattle.rescue.proofs.rescue_one.Statement.{statement}
 use Rattle.rescue.proofs.rescue_one.Tie as tie
 
--- src/lib.rt:76:30
 cast-rescued-into : tie.Need-cast-rescued-into
 cast-rescued-into c = search needs
 
--- src/lib.rt:76:5
 rescued-into-requires : tie.Need-rescued-into-requires
 rescued-into-requires c κs = search needs
 
--- src/lib.rt:77:5
 write-units-requires : tie.Need-write-units-requires
 write-units-requires c κs = search needs
 
--- src/lib.rt:58:1
 same-length : tie.Need-same-length
 same-length c = search needs
 
--- src/lib.rt:58:1
 same-length-2 : tie.Need-same-length-2
 same-length-2 c = search needs
 
--- src/lib.rt:58:1
 same-length-3 : tie.Need-same-length-3
 same-length-3 c = search needs
 
--- src/lib.rt:58:1
 same-length-4 : tie.Need-same-length-4
 same-length-4 c = search needs
 
--- src/lib.rt:58:1
 returns : tie.Need-returns
 unfolding rescueStores
 returns c = let start = c .before .before .before .before .before .before .before .before .before .before .before .before .before .before .before .before .before .before .before .before .before .before in let e = c .before .before .before .before .before .before .before .before .before .before .before .before .before .rescued-into .ensures in

@@ -7,18 +7,15 @@ use mathlib.Core.Path.{ap, _∙_}
 use Rattle.rescued.proofs.logs_of.Statement.{statement}
 use Rattle.rescued.proofs.logs_of.Tie as tie
 
--- src/lib.rt:45:9
 selected-requires : tie.Need-selected-requires
 selected-requires c κs = let x = c .before .args in let d = spareOnly (x .spare .now) in
     let writes = within-as (x .z) (c .before .pre .1) (buckets-within (x .z) d (isWrite (x .z) d)) in
     (c .before .pre .0, (writes, writes))
 
--- src/lib.rt:46:5
 by-epoch-requires : tie.Need-by-epoch-requires
 by-epoch-requires c κs = let x = c .before .before .args in let d = spareOnly (x .spare .now) in
     (c .before .before .pre .0, within-as (x .z) (writes-of (x .z) d (x .b) (c .before .before .pre .1) (c .selected .ensures)) (buckets-within (x .z) d (isWriteOf (x .z) d (x .b))))
 
--- src/lib.rt:40:1
 returns : tie.Need-returns
 unfolding byEpoch
 returns c = let x = c .before .before .before .args in let d = spareOnly (x .spare .now) in

@@ -19,45 +19,35 @@ Inv-loop z flash spare bytes₀ n items i₀ bytes i = (i ≤ n) × (length byte
 abbrev μ-loop : tie.MeasureT-loop
 μ-loop z flash spare bytes₀ n items i₀ bytes i = n - i
 
--- src/lib.rt:29:9
 used-requires : tie.Need-used-requires Inv-loop μ-loop
 used-requires c κs = search needs
 
--- src/lib.rt:32:5
 loop-holds : tie.Need-loop-holds Inv-loop μ-loop
 loop-holds c = (omega arith, c .before .before .before .before .before .pre .1 .1, refl, search needs, search needs)
 
--- src/lib.rt:33:17
 array-read-c : tie.Need-array-read-c Inv-loop μ-loop
 array-read-c c = search needs
 
--- src/lib.rt:33:17
 cast-c : tie.Need-cast-c Inv-loop μ-loop
 cast-c c = search needs
 
--- src/lib.rt:34:9
 merge-into-requires : tie.Need-merge-into-requires Inv-loop μ-loop
 merge-into-requires c κs = let start = c .before .before .before .before .before .before .before .before in let u = c .before .before .before .before .used in let l = c .before .before .loop in
     (start .pre .0, (listed (start .args .z) (start .args .list) (u .result) (l .i) (start .pre .1 .0) (u .ensures .0) (omega (arith, l .inv .3)) (c .before .loop-test .taken), l .inv .1))
 
--- src/lib.rt:35:9
 add-i : tie.Need-add-i Inv-loop μ-loop
 add-i c = omega arith
 
--- src/lib.rt:32:5
 loop-less : tie.Need-loop-less Inv-loop μ-loop
 loop-less c = omega arith
 
--- src/lib.rt:32:5
 loop-again : tie.Need-loop-again Inv-loop μ-loop
 loop-again c = let l = c .before .before .before .before .before .loop in let x = c .before .before .before .before .before .before .before .before .before .before .before .args in let u = c .before .before .before .before .before .before .before .used in
     (omega arith, omega (arith, c .before .bytes .given, l .inv .1), rw (c .before .before .merge-into .ensures) (sym (merge-next (x .z) (chip (x .flash .now) (x .spare .now)) (l .i) (u .result) (x .list .items) _ (c .before .before .before .before .loop-test .taken) (omega (arith, l .inv .3))) ∙ l .inv .2), l .inv .3, l .inv .4)
 
--- src/lib.rt:23:1
 same-length : tie.Need-same-length Inv-loop μ-loop
 same-length c = omega (arith, c .before .loop .inv .1, c .before .before .before .before .before .before .before .pre .1 .1)
 
--- src/lib.rt:23:1
 returns : tie.Need-returns Inv-loop μ-loop
 returns c = let l = c .before .loop in let x = c .before .before .before .before .before .before .before .args in let u = c .before .before .before .used in
     let d = chip (x .flash .now) (x .spare .now) in

@@ -12,30 +12,24 @@ use borrow.Author.Needs.{needs}
 use Rattle.rescued.proofs.rescued_into.Statement.{statement}
 use Rattle.rescued.proofs.rescued_into.Tie as tie
 
--- src/lib.rt:89:9
 selected-requires : tie.Need-selected-requires
 selected-requires c κs = let start = c .before .before .before .before in let x = start .args in let d = spareOnly (x .spare .now) in
     let chosen = within-as (x .z) (start .pre .1 .0 .1 .chosen-are) (buckets-within (x .z) d (isChosen (x .z) d)) in
     (chip-of (start .pre .0), (chosen, chosen))
 
--- src/lib.rt:90:19
 count-requires : tie.Need-count-requires
 count-requires c κs = let start = c .before .before .before .before .before in let x = start .args in let d = spareOnly (x .spare .now) in
     (chip-of (start .pre .0), within-as (x .z) (start .pre .1 .0 .0 .dropped-are) (buckets-within (x .z) d (isDroppedWrite (x .z) d)))
 
--- src/lib.rt:91:30
 used-requires : tie.Need-used-requires
 used-requires c κs = search needs
 
--- src/lib.rt:92:39
 head-requires : tie.Need-head-requires
 head-requires c κs = search needs
 
--- src/lib.rt:92:39
 cast-base-into : tie.Need-cast-base-into
 cast-base-into c = search needs
 
--- src/lib.rt:92:5
 base-into-requires : tie.Need-base-into-requires
 base-into-requires c κs = let start = c .before .before .before .before .before .before .before .before .before in let x = start .args in let d = spareOnly (x .spare .now) in
     let sound = start .pre .0 in
@@ -43,20 +37,16 @@ base-into-requires c κs = let start = c .before .before .before .before .before
     let copy = copies-of (x .z) d (x .b) (start .pre .1 .0 .1 .chosen-are) (c .before .before .before .before .selected .ensures) in
     (sound .limits, ((sound .lent .flash-length, sound .lent .disk-length, start .pre .1 .1 .1), (start .pre .1 .1 .0, rw (c .before .head .ensures) (head-within (x .z) _ low (within-as (x .z) copy (copy-within (x .z) d (x .b)))))))
 
--- src/lib.rt:94:13
 logs-of-requires : tie.Need-logs-of-requires
 logs-of-requires c κs = search needs
 
--- src/lib.rt:95:9
 merge-all-requires : tie.Need-merge-all-requires
 merge-all-requires c κs = let start = c .before .before .before .before .before .before .before .before .before .before .before .before .before .before .before in let x = start .args in let d = spareOnly (x .spare .now) in
     (readable (start .pre .0), (within-as (x .z) (c .before .logs-of .ensures) (sorted-within (x .z) d (buckets (x .z) d (isWriteOf (x .z) d (x .b))) (buckets-within (x .z) d (isWriteOf (x .z) d (x .b)))), omega (arith, c .before .before .before .before .bytes .given, start .pre .1 .1 .1)))
 
--- src/lib.rt:73:1
 same-length : tie.Need-same-length
 same-length c = search needs
 
--- src/lib.rt:73:1
 returns : tie.Need-returns
 returns c = let start = c .before .before .before .before .before .before .before .before .before .before .before .before .before .before .before .before .before .before in let x = start .args in let o = spareOnly (x .spare .now) in
     let d = device (x .flash .now) (x .spare .now) (x .disk .now) in
@@ -65,11 +55,9 @@ returns c = let start = c .before .before .before .before .before .before .befor
     let base = c .before .before .before .before .before .before .before .before .base-into .ensures ∙ base-as (x .z) d (x .b) copy (c .before .before .before .before .before .before .before .before .before .before .before .used .ensures .0) (c .before .before .before .before .before .before .before .before .before .before .head .ensures) (c .before .before .before .before .before .if1 .taken) in
     c .before .before .merge-all .ensures ∙ merge-all-as (x .z) d (c .before .before .before .before .logs-of .ensures ∙ same-logs (x .z) d (x .b)) base ∙ rescued-flushed (x .z) d (x .b) (sym f ∙ c .before .before .before .before .before .if1 .taken)
 
--- src/lib.rt:73:1
 same-length-2 : tie.Need-same-length-2
 same-length-2 c = search needs
 
--- src/lib.rt:73:1
 returns-2 : tie.Need-returns-2
 returns-2 c = let start = c .before .before .before .before .before .before .before .before .before .before .before .before .before in let x = start .args in let o = spareOnly (x .spare .now) in
     let d = device (x .flash .now) (x .spare .now) (x .disk .now) in

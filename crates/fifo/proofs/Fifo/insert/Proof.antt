@@ -8,31 +8,24 @@ use borrow.Author.Needs.{needs}
 use Rattle.fifo.proofs.Fifo.insert.Statement.{statement}
 use Rattle.fifo.proofs.Fifo.insert.Tie as tie
 
--- src/lib.rt:95:13
 used-requires : tie.Need-used-requires
 used-requires c κs = search needs
 
--- src/lib.rt:97:38
 add-copied : tie.Need-add-copied
 add-copied c = search needs
 
--- src/lib.rt:97:57
 sub-copied : tie.Need-sub-copied
 sub-copied c = search needs
 
--- src/lib.rt:97:24
 copied-requires : tie.Need-copied-requires
 copied-requires c κs = search needs
 
--- src/lib.rt:98:9
 array-write-next : tie.Need-array-write-next
 array-write-next c = search needs
 
--- src/lib.rt:101:18
 add-t9 : tie.Need-add-t9
 add-t9 c = search needs
 
--- src/lib.rt:91:5
 returns : tie.Need-returns
 returns c = let x = c .before .before .before .args in
     let u = c .before .before .used in
