@@ -22,8 +22,15 @@ pub struct Made {
     pub read: usize,
 }
 
-// A read into a buffer of zeros, as long as the bytes asked for.
-fn read_call(
+// A call that reads nothing.
+fn unread(outcome: Outcome) -> Made
+    ensures { λ r. ⌜ (r .outcome ≡ outcome) × (r .read ≡ 0) ⌝ }
+{
+    Made { outcome, read: 0 }
+}
+
+// A read into a buffer as long as the bytes asked for, zeros at first.
+fn read_bytes(
     s: State,
     allowance: usize,
     bucket: usize,
@@ -41,8 +48,31 @@ fn read_call(
     read::read(s, back, offset, buffer, allowance, flash, spare, disk)
 }
 
+fn read_call(
+    s: State,
+    allowance: usize,
+    bucket: usize,
+    offset: usize,
+    count: usize,
+    buffer: &mut [u8],
+    flash: &mut [u8],
+    spare: &mut [u8],
+    disk: &mut [u8],
+) -> Made
+    requires { ⌜ (bucket < 65536) × (count ≤ length (now buffer)) ⌝ }
+    ensures { λ r. ⌜ handedBack (device (now (flash .exit)) (now (spare .exit)) (now (disk .exit))) (take (r .read) (now (buffer .exit))) (r .outcome) ≡ handed s (call allowance (readCall bucket offset (replicate count 0)) (viewOf s) (device (now (flash .entry)) (now (spare .entry)) (now (disk .entry)))) ⌝ }
+    ensures { λ r. ⌜ r .read ≡ count ⌝ }
+{
+    let part = &mut buffer[..count];
+    let outcome = read_bytes(s, allowance, bucket, offset, part, flash, spare, disk);
+    Made {
+        outcome,
+        read: count,
+    }
+}
+
 // A write of the bytes behind the line's fields, read from its digits into a buffer as long as they are.
-fn write_call(
+fn write_bytes(
     s: State,
     allowance: usize,
     bucket: usize,
@@ -62,6 +92,35 @@ fn write_call(
     write::write(s, back, offset, bytes, allowance, flash, spare, disk)
 }
 
+fn write_call(
+    s: State,
+    allowance: usize,
+    bucket: usize,
+    offset: usize,
+    line: &[u8],
+    buffer: &mut [u8],
+    flash: &mut [u8],
+    spare: &mut [u8],
+    disk: &mut [u8],
+) -> Outcome
+    requires { ⌜ (bucket < 65536) × (lineFits (now line) ≡ true) × (65535 ≤ length (now buffer)) ⌝ }
+    ensures { λ r. ⌜ handedBack (device (now (flash .exit)) (now (spare .exit)) (now (disk .exit))) [] r ≡ handed s (call allowance (writeCall bucket offset (drop 7 (bytesOf (now (line .entry))))) (viewOf s) (device (now (flash .entry)) (now (spare .entry)) (now (disk .entry)))) ⌝ }
+{
+    let size = frame::data_length(line);
+    let bytes = &mut buffer[..size];
+    write_bytes(
+        s,
+        allowance,
+        bucket,
+        offset,
+        line,
+        bytes,
+        flash,
+        spare,
+        disk,
+    )
+}
+
 // The call of a line that is none of the paper's F0; recover at the sizes z, those of the last Done format.
 fn make(
     s: State,
@@ -79,65 +138,52 @@ fn make(
     ensures { λ r. ⌜ r .read ≡ length (lentBuffer (callOf z (bytesOf (now (line .entry))))) ⌝ }
 {
     match request {
-        Request::Bad => Made {
-            outcome: outcome::refused(240, s),
-            read: 0,
-        },
-        Request::Format { allowance, sizes } => Made {
-            outcome: format::format(s, sizes, allowance, flash, spare, disk),
-            read: 0,
-        },
+        Request::Bad => unread(outcome::refused(240, s)),
+        Request::Format { allowance, sizes } => {
+            unread(format::format(s, sizes, allowance, flash, spare, disk))
+        }
         Request::Read {
             allowance,
             bucket,
             offset,
             length,
-        } => Made {
-            outcome: read_call(
+        } => {
+            read_call(
                 s,
                 allowance,
                 bucket,
                 offset,
-                &mut buffer[..length],
+                length,
+                buffer,
                 flash,
                 spare,
                 disk,
-            ),
-            read: length,
-        },
+            )
+        }
         Request::Write {
             allowance,
             bucket,
             offset,
         } => {
-            let size = frame::data_length(line);
-            Made {
-                outcome: write_call(
-                    s,
-                    allowance,
-                    bucket,
-                    offset,
-                    line,
-                    &mut buffer[..size],
-                    flash,
-                    spare,
-                    disk,
-                ),
-                read: 0,
-            }
+            unread(write_call(
+                s,
+                allowance,
+                bucket,
+                offset,
+                line,
+                buffer,
+                flash,
+                spare,
+                disk,
+            ))
         }
-        Request::Erase(allowance) => Made {
-            outcome: erasestep::erase_step(s, allowance, flash, spare, disk),
-            read: 0,
-        },
-        Request::Drain(allowance) => Made {
-            outcome: drain::drain(s, allowance, flash, spare, disk),
-            read: 0,
-        },
-        Request::Recover(allowance) => Made {
-            outcome: recover::recover(s, z, allowance, flash, spare, disk),
-            read: 0,
-        },
+        Request::Erase(allowance) => {
+            unread(erasestep::erase_step(s, allowance, flash, spare, disk))
+        }
+        Request::Drain(allowance) => unread(drain::drain(s, allowance, flash, spare, disk)),
+        Request::Recover(allowance) => {
+            unread(recover::recover(s, z, allowance, flash, spare, disk))
+        }
     }
 }
 

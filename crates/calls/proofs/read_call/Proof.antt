@@ -1,16 +1,20 @@
 -- `calls::read_call` meets its contract.
+use lib.Seq.{take-at, length-take-le}
+use lib.ListN.{length, take, drop, length-take, length-append, length-drop}
+use native.Mathlib.Omega.{arith}
+use mathlib.Core.Path.{_≡_, refl}
 use borrow.Author.Needs.{needs}
 use Rattle.calls.proofs.read_call.Statement.{statement}
 use Rattle.calls.proofs.read_call.Tie as tie
 
-fill-requires : tie.Need-fill-requires
-fill-requires c κs = search needs
+slice-relend-prefix-part : tie.Need-slice-relend-prefix-part
+slice-relend-prefix-part c = search needs
 
-cast-back : tie.Need-cast-back
-cast-back c = search needs
+slice-aggregate-part : tie.Need-slice-aggregate-part
+slice-aggregate-part c = simp length-take (omega (arith, c .before .before .before .before .before .pre .1))
 
-read-requires : tie.Need-read-requires
-read-requires c κs = search needs
+read-bytes-requires : tie.Need-read-bytes-requires
+read-bytes-requires c κs = search needs
 
 same-length : tie.Need-same-length
 same-length c = search needs
@@ -25,15 +29,20 @@ same-length-4 : tie.Need-same-length-4
 same-length-4 c = search needs
 
 returns : tie.Need-returns
-returns c = rw (c .before .before .before .before .before .before .before .before .before .before .before .before .before .before .before .fill .ensures) at (c .before .before .before .before .before .before .before .before .read .ensures)
+returns c = let start = c .before .before .before .before .before .before .before .before .before .before .before .before .before .before .before .before .before in
+    let a = start .args in
+    let back = c .before .before .before .before .before .before .before .before .read-bytes .last .1 .1 .1 .1 .0 in
+    let lent : length (take (a .count) (a .buffer .now)) ≡ a .count = length-take-le (a .count) (a .buffer .now) (start .pre .1) in
+    let whole : length back ≡ a .count = omega (arith, c .before .before .before .before .before .before .before .buffer .given, length-append back (drop (a .count) (a .buffer .now)), length-drop (a .count) (a .buffer .now), start .pre .1) in
+    (rw (take-at back (drop (a .count) (a .buffer .now)) (a .count) whole) (rw lent at (c .before .before .before .before .before .before .before .before .read-bytes .ensures)), refl)
 
 pub read-call-spec : {M : Type 1} → statement M
 read-call-spec =
     tie.close
     (tie.spec
-    fill-requires
-    cast-back
-    read-requires
+    slice-relend-prefix-part
+    slice-aggregate-part
+    read-bytes-requires
     same-length
     same-length-2
     same-length-3

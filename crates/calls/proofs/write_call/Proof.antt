@@ -1,16 +1,22 @@
 -- `calls::write_call` meets its contract.
+use lib.ListN.{length-take}
+use native.Mathlib.Omega.{arith}
 use borrow.Author.Needs.{needs}
+use Rattle.calls.proofs.Asked.{data-short}
 use Rattle.calls.proofs.write_call.Statement.{statement}
 use Rattle.calls.proofs.write_call.Tie as tie
 
-write-data-requires : tie.Need-write-data-requires
-write-data-requires c κs = search needs
+data-length-requires : tie.Need-data-length-requires
+data-length-requires c κs = search needs
 
-cast-back : tie.Need-cast-back
-cast-back c = search needs
+slice-relend-prefix-bytes : tie.Need-slice-relend-prefix-bytes
+slice-relend-prefix-bytes c = let start = c .before .before .before .before .before .before in omega (arith, data-short (start .args .line .now) (start .pre .1), start .pre .2, c .data-length .ensures)
 
-write-requires : tie.Need-write-requires
-write-requires c κs = search needs
+slice-aggregate-bytes : tie.Need-slice-aggregate-bytes
+slice-aggregate-bytes c = let start = c .before .before .before .before .before .before .before in simp length-take (omega (arith, data-short (start .args .line .now) (start .pre .1), start .pre .2, c .before .data-length .ensures))
+
+write-bytes-requires : tie.Need-write-bytes-requires
+write-bytes-requires c κs = let start = c .before .before .before .before .before .before .before .before .before .before in ((start .pre .0, start .pre .1), simp length-take (omega (arith, data-short (start .args .line .now) (start .pre .1), start .pre .2, c .before .before .before .before .data-length .ensures)))
 
 same-length : tie.Need-same-length
 same-length c = search needs
@@ -25,15 +31,16 @@ same-length-4 : tie.Need-same-length-4
 same-length-4 c = search needs
 
 returns : tie.Need-returns
-returns c = rw (c .before .before .before .before .before .before .before .before .before .before .before .before .before .write-data .ensures) at (c .before .before .before .before .before .before .write .ensures)
+returns c = search needs
 
 pub write-call-spec : {M : Type 1} → statement M
 write-call-spec =
     tie.close
     (tie.spec
-    write-data-requires
-    cast-back
-    write-requires
+    data-length-requires
+    slice-relend-prefix-bytes
+    slice-aggregate-bytes
+    write-bytes-requires
     same-length
     same-length-2
     same-length-3
