@@ -11,6 +11,8 @@ use borrow.Author.Tests.{lt-ltb, eq-eqb}
 use Rattle.lists.specs.Lists.{if_then_else_, all, any, keep, below, member, times}
 use Rattle.lists.specs.Arrays.{joined}
 use Rattle.lists.proofs.Tests.{and-left, and-right, and-true}
+use Rattle.lists.proofs.Rows.{below-more}
+use Rattle.lists.proofs.Turns.{keep-append}
 use Rattle.lists.proofs.Counts.{times-cons, times-self, in-all}
 use Rattle.lists.proofs.Orders.{kept-below, below-kept, in-any, member-in}
 use Rattle.lists.proofs.Arrays.{all-at, keep-step, keep-length, joined-fits}
@@ -114,3 +116,12 @@ member-kept t x n h = go (t x) refl (member x (keep t (below n))) refl
     go true e v q = in-any (eqb x) (keep t (below n)) x (omega (arith, below-kept t x n h e)) (eq-eqb x x refl) ∙ sym e
     go false e true q = absurd (true≢false (sym (kept-below t x n (member-in x (keep t (below n)) q) .0) ∙ e))
     go false e false q = q ∙ sym e
+
+-- one more number, taken or passed
+pub take-more : (t : ℕ → Bool) (k : ℕ) → t k ≡ true → keep t (below (k + 1)) ≡ keep t (below k) ++ (k ∷ [])
+unfolding keep
+take-more t k h = ap (keep t) (below-more k) ∙ (keep-append t (below k) (k ∷ []) ∙ rw h)
+
+pub pass-more : (t : ℕ → Bool) (k : ℕ) → t k ≡ false → keep t (below (k + 1)) ≡ keep t (below k)
+unfolding keep
+pass-more t k h = ap (keep t) (below-more k) ∙ (keep-append t (below k) (k ∷ []) ∙ rw (h, append-nil))

@@ -206,8 +206,17 @@ pub fn buckets(z: Sizes, kind: Kind, spare: &[u8]) -> Fifo
     requires { ⌜ Chip z (now spare) ⌝ }
     ensures { λ r. ⌜ listOf r ≡ buckets z (spareOnly (now (spare .entry))) (isKind z (spareOnly (now (spare .entry))) kind) ⌝ }
 {
-    let all = Fifo::rising(z.c);
-    selected(z, Rule::Being(kind), all, all, spare)
+    let mut items = [0u8; 256];
+    let mut n = 0;
+    let mut c = 0;
+    while c < z.c {
+        if is_a(z, kind, c, spare) {
+            items[n] = c as u8;
+            n += 1;
+        }
+        c += 1;
+    }
+    Fifo { items, len: n }
 }
 
 pub fn write_classes(z: Sizes, spare: &[u8]) -> WriteClasses

@@ -2,7 +2,6 @@
 use lib.Seq.{take-all, length-take-le}
 use lib.ListN.{length, take, length-append, length-take}
 use native.Mathlib.Omega.{arith}
-use Prim.Native.Nat.{_+_, _-_}
 use mathlib.Core.List.{_++_}
 use mathlib.Core.Path.{_≡_, sym, _∙_}
 use borrow.Author.Needs.{needs}
