@@ -55,6 +55,7 @@ fn step(
     input::advance(ready, piece, line, buffer, flash, spare, disk, out)
 }
 
+// The lines of a piece are answered before the next is read: someone may wait for the answers.
 fn walk_piece(
     w: Walk,
     piece: &[u8],
@@ -73,7 +74,7 @@ fn walk_piece(
     while walk.passed < piece.len() {
         walk = step(walk, piece, line, buffer, flash, spare, disk, out);
     }
-    walk
+    write_out(walk, out)
 }
 
 // A proved loop has to end, and nothing says that the input does: the loop counts its turns down.

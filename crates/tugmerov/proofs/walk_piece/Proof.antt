@@ -28,26 +28,30 @@ loop-again : tie.Need-loop-again Inv-loop μ-loop
 loop-again c = let v = c .before .before .before .before .before .before .before .before .before .before .before .before .before .before .before .before .before .before .before .before .before .loop .inv in
     (c .before .before .before .before .before .before .before .before .before .before .before .before .step .ensures .0, omega (arith, c .before .before .before .before .before .before .before .before .before .before .before .line .given, v .1), omega (arith, c .before .before .before .before .before .before .before .before .before .buffer .given, v .2), omega (arith, c .before .before .before .before .before .before .before .flash .given, v .3), omega (arith, c .before .before .before .before .before .spare .given, v .4), omega (arith, c .before .before .before .disk .given, v .5), omega (arith, c .before .out .given, v .6))
 
+write-out-requires : tie.Need-write-out-requires Inv-loop μ-loop
+write-out-requires c κs = c .before .before .before .loop .inv .0 .printed-room
+
 same-length : tie.Need-same-length Inv-loop μ-loop
-same-length c = c .before .before .loop .inv .1
+same-length c = c .before .before .before .before .loop .inv .1
 
 same-length-2 : tie.Need-same-length-2 Inv-loop μ-loop
-same-length-2 c = c .before .before .loop .inv .2
+same-length-2 c = c .before .before .before .before .loop .inv .2
 
 same-length-3 : tie.Need-same-length-3 Inv-loop μ-loop
-same-length-3 c = c .before .before .loop .inv .3
+same-length-3 c = c .before .before .before .before .loop .inv .3
 
 same-length-4 : tie.Need-same-length-4 Inv-loop μ-loop
-same-length-4 c = c .before .before .loop .inv .4
+same-length-4 c = c .before .before .before .before .loop .inv .4
 
 same-length-5 : tie.Need-same-length-5 Inv-loop μ-loop
-same-length-5 c = c .before .before .loop .inv .5
+same-length-5 c = c .before .before .before .before .loop .inv .5
 
 same-length-6 : tie.Need-same-length-6 Inv-loop μ-loop
-same-length-6 c = c .before .before .loop .inv .6
+same-length-6 c = c .before .before .before .before .loop .inv .6
 
 returns : tie.Need-returns Inv-loop μ-loop
-returns c = c .before .before .loop .inv .0
+returns c = let v = c .before .before .before .before .loop in let e = c .write-out .ensures in
+    sound-again (v .walk) (c .write-out .result) _ _ _ _ _ _ (v .inv .0) (e .0) (e .1) (omega (arith, e .3))
 
 pub walk-piece-spec : {M : Type 1} → statement M
 walk-piece-spec =
@@ -59,6 +63,7 @@ walk-piece-spec =
     step-requires
     loop-less
     loop-again
+    write-out-requires
     same-length
     same-length-2
     same-length-3
