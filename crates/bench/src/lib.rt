@@ -1,8 +1,6 @@
 // The engine's operations, repeated on lent areas of any size. Each run gives the sum of the stores made.
-use fifo::Fifo;
 use model::Sizes;
 use outcome::Outcome;
-use queue::Queue;
 use state::State;
 
 // Never cuts: no operation makes as many stores.
@@ -38,21 +36,8 @@ fn sizes(s: usize, b: usize) -> Sizes {
     }
 }
 
-fn unformatted(z: Sizes) -> State {
-    State {
-        sizes: z,
-        running: false,
-        reads: Queue::empty(),
-        writes: Queue::empty(),
-        gc: Fifo::empty(),
-        free: Fifo::empty(),
-        accepted: 0,
-        next: 0,
-    }
-}
-
 fn formatted(z: Sizes, flash: &mut [u8], spare: &mut [u8], disk: &mut [u8]) -> State {
-    let o = format::format(unformatted(z), z, PLENTY, flash, spare, disk);
+    let o = format::format(script::unformatted(z), z, PLENTY, flash, spare, disk);
     o.state
 }
 

@@ -44,17 +44,12 @@ pub fn epoch_of(z: Sizes, c: usize, spare: &[u8]) -> u32
     }
 }
 
-// The back-end bucket; the erased bytes of a blank bucket read as 65,535, which is below no B.
 pub fn back_of(z: Sizes, c: usize, spare: &[u8]) -> u16
     requires { ⌜ Chip z (now spare) ⌝ }
     requires { ⌜ c < z .c ⌝ }
     ensures { λ r. ⌜ r ≡ backOf z (spareOnly (now (spare .entry))) c ⌝ }
 {
-    let page = look(z, c, 0, spare);
-    match page {
-        Seen::Blank => 65535,
-        Seen::Programmed(f) => f.back,
-    }
+    spare::back_at(spare, c * z.p)
 }
 
 pub fn is_write(z: Sizes, c: usize, spare: &[u8]) -> bool

@@ -3,7 +3,7 @@ ghost use mathlib.Core.Path.{_≡_};
 ghost use Prim.Native.Nat.{_+_, _*_, _≤_};
 ghost use lib.ListN.{length};
 ghost use Rattle.lists.specs.Lists.{same, part};
-ghost use Rattle.model.specs.Spare.{two, four, zeros};
+ghost use Rattle.model.specs.Spare.{two, four, back, zeros};
 ghost use Rattle.spare.specs.Fields.{tag, fields, seen};
 
 // What the spare bytes of a programmed page say. `last` is the log's length less one.
@@ -154,4 +154,14 @@ pub fn zeroed(spare: &[u8], page: usize) -> bool
     let start = page * 16;
     let end = start + 16;
     zero_bytes(&spare[start..end])
+}
+
+// The back-end bucket of a page; the erased bytes of a blank one read as 65,535, which is below no B.
+pub fn back_at(spare: &[u8], page: usize) -> u16
+    requires { ⌜ page * 16 + 16 ≤ length (now spare) ⌝ }
+    ensures { λ r. ⌜ r ≡ back (part (now (spare .entry)) (page * 16) 16) ⌝ }
+{
+    let start = page * 16;
+    let end = start + 16;
+    two_at(&spare[start..end], 8)
 }

@@ -1,28 +1,22 @@
-use mathlib.Core.Path.{sym, ap, _∙_}
-use borrow.Author.Needs.{needs}
-use Rattle.model.specs.Spare.{back, two}
+use Rattle.image.proofs.Place.{page-inside}
+use Rattle.model.specs.Stores.{tagOf}
+use Rattle.model.specs.Sizes.{pageIndex}
 use Rattle.model.specs.Image.{backOf}
-use Rattle.spare.proofs.Looked.{seen-programmed, seen-erased}
-use Rattle.spare.specs.Fields.{fields}
+use native.Mathlib.Omega.{arith}
+use native.Mathlib.Nat.{add-zero}
+use Prim.Native.Nat.{_*_}
 use Rattle.image.proofs.back_of.Statement.{statement}
 use Rattle.image.proofs.back_of.Tie as tie
 
-look-requires : tie.Need-look-requires
-look-requires c κs = search needs
+mul-back-at : tie.Need-mul-back-at
+mul-back-at c = let p = c .before .before .pre in omega (arith, page-inside {k = 0} (p .0) (p .1) (omega (arith, p .0 .limits .p-low)))
 
-enum-told : tie.Need-enum-told
-enum-told c = search needs
-
-enum-known-page : tie.Need-enum-known-page
-enum-known-page c = search needs
+back-at-requires : tie.Need-back-at-requires
+back-at-requires c κs = let p = c .before .before .pre in omega (arith, page-inside {k = 0} (p .0) (p .1) (omega (arith, p .0 .limits .p-low)))
 
 returns : tie.Need-returns
-unfolding backOf back two
-returns c = rw (seen-erased _ (sym (c .before .before .look .ensures) ∙ c .enum-told .given .1))
-
-returns-2 : tie.Need-returns-2
-unfolding backOf back fields
-returns-2 c = let e = seen-programmed _ _ (sym (c .before .before .before .look .ensures) ∙ c .before .page .given .1) in ap (λ f. f .back) (sym (e .1))
+unfolding backOf tagOf pageIndex
+returns c = rw (add-zero (c .before .before .before .args .c * c .before .before .before .args .z .p)) (c .back-at .ensures)
 
 pub back-of-spec : {M : Type 1} → statement M
-back-of-spec = tie.close (tie.spec look-requires enum-told enum-known-page returns returns-2)
+back-of-spec = tie.close (tie.spec mul-back-at back-at-requires returns)
