@@ -25,6 +25,9 @@ pub fn used(z: Sizes, c: usize, spare: &[u8]) -> bool
     requires { ⌜ c < z .c ⌝ }
     ensures { λ r. ⌜ r ≡ used z (spareOnly (now (spare .entry))) c ⌝ }
 {
+    if spare::kind_at(spare, c * z.p) != 255 {
+        return true;
+    }
     let page = look(z, c, 0, spare);
     match page {
         Seen::Blank => false,
@@ -37,11 +40,11 @@ pub fn epoch_of(z: Sizes, c: usize, spare: &[u8]) -> u32
     requires { ⌜ c < z .c ⌝ }
     ensures { λ r. ⌜ r ≡ epochOf z (spareOnly (now (spare .entry))) c ⌝ }
 {
-    let page = look(z, c, 0, spare);
-    match page {
-        Seen::Blank => 0,
-        Seen::Programmed(f) => f.epoch,
+    let epoch = spare::epoch_at(spare, c * z.p);
+    if epoch != 4294967295 {
+        return epoch;
     }
+    if used(z, c, spare) { epoch } else { 0 }
 }
 
 pub fn back_of(z: Sizes, c: usize, spare: &[u8]) -> u16
@@ -57,11 +60,7 @@ pub fn is_write(z: Sizes, c: usize, spare: &[u8]) -> bool
     requires { ⌜ c < z .c ⌝ }
     ensures { λ r. ⌜ r ≡ isWrite z (spareOnly (now (spare .entry))) c ⌝ }
 {
-    let page = look(z, c, 0, spare);
-    match page {
-        Seen::Blank => false,
-        Seen::Programmed(f) => f.kind == 2,
-    }
+    spare::kind_at(spare, c * z.p) == 2
 }
 
 pub fn is_copy(z: Sizes, c: usize, spare: &[u8]) -> bool
@@ -81,11 +80,7 @@ pub fn is_dirty(z: Sizes, c: usize, spare: &[u8]) -> bool
     requires { ⌜ c < z .c ⌝ }
     ensures { λ r. ⌜ r ≡ isDirty z (spareOnly (now (spare .entry))) c ⌝ }
 {
-    let page = look(z, c, 0, spare);
-    match page {
-        Seen::Blank => false,
-        Seen::Programmed(f) => f.kind == 3,
-    }
+    spare::kind_at(spare, c * z.p) == 3
 }
 
 pub fn page_blank(z: Sizes, c: usize, k: usize, spare: &[u8]) -> bool

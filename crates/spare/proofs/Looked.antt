@@ -3,8 +3,8 @@ use mathlib.Core.Path.{_≡_, refl}
 use mathlib.Core.Bool.{Bool, true, false}
 use mathlib.Core.List.{List}
 use Prim.Native.Nat.{ℕ}
-use Rattle.lists.specs.Lists.{if_then_else_, ff}
-use Rattle.model.specs.Spare.{blank}
+use Rattle.lists.specs.Lists.{if_then_else_}
+use Rattle.model.specs.Spare.{two, four, blank, kind, epoch}
 use Rattle.model.proofs.Tags.{blank-true}
 use Rattle.spare.specs.Fields.{fields, seen}
 use Rattle.spare.specs.declared.Fields.{Fields}
@@ -18,10 +18,6 @@ seen-blank tag h = go (blank tag) h
     go true h = refl
     go false h = cc
 
--- a blank page is an erased one
-pub seen-erased : (tag : List ℕ) → seen tag ≡ Blank → tag ≡ ff 16
-seen-erased tag h = blank-true tag (seen-blank tag h)
-
 pub seen-programmed : (tag : List ℕ) (f : Fields) → seen tag ≡ Programmed f → (blank tag ≡ false) × (fields tag ≡ f)
 unfolding seen
 seen-programmed tag f h = go (blank tag) h
@@ -29,3 +25,12 @@ seen-programmed tag f h = go (blank tag) h
     go : (t : Bool) → (if t then Blank else Programmed (fields tag)) ≡ Programmed f → (t ≡ false) × (fields tag ≡ f)
     go true h = ((cc), (cc))
     go false h = (refl, (cc))
+
+-- what the erased bytes of a blank page read as
+pub kind-erased : (tag : List ℕ) → blank tag ≡ true → kind tag ≡ 255
+unfolding kind
+kind-erased tag h = rw (blank-true tag h)
+
+pub epoch-erased : (tag : List ℕ) → blank tag ≡ true → epoch tag ≡ 4294967295
+unfolding epoch four two
+epoch-erased tag h = rw (blank-true tag h)

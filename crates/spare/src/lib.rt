@@ -3,7 +3,7 @@ ghost use mathlib.Core.Path.{_≡_};
 ghost use Prim.Native.Nat.{_+_, _*_, _≤_};
 ghost use lib.ListN.{length};
 ghost use Rattle.lists.specs.Lists.{same, part};
-ghost use Rattle.model.specs.Spare.{two, four, back, zeros};
+ghost use Rattle.model.specs.Spare.{two, four, kind, epoch, back, zeros};
 ghost use Rattle.spare.specs.Fields.{tag, fields, seen};
 
 // What the spare bytes of a programmed page say. `last` is the log's length less one.
@@ -164,4 +164,22 @@ pub fn back_at(spare: &[u8], page: usize) -> u16
     let start = page * 16;
     let end = start + 16;
     two_at(&spare[start..end], 8)
+}
+
+// The kind of a page; 255 in a blank one.
+pub fn kind_at(spare: &[u8], page: usize) -> u8
+    requires { ⌜ page * 16 + 16 ≤ length (now spare) ⌝ }
+    ensures { λ r. ⌜ r ≡ kind (part (now (spare .entry)) (page * 16) 16) ⌝ }
+{
+    spare[page * 16]
+}
+
+// The epoch of a page; its erased bytes read as 4,294,967,295.
+pub fn epoch_at(spare: &[u8], page: usize) -> u32
+    requires { ⌜ page * 16 + 16 ≤ length (now spare) ⌝ }
+    ensures { λ r. ⌜ r ≡ epoch (part (now (spare .entry)) (page * 16) 16) ⌝ }
+{
+    let start = page * 16;
+    let end = start + 16;
+    four_at(&spare[start..end], 4)
 }

@@ -1,27 +1,42 @@
-use mathlib.Core.Path.{sym, ap, _∙_}
-use borrow.Author.Needs.{needs}
+use Rattle.image.proofs.First.{first-inside, first-tag, epoch-used}
+use Rattle.image.specs.Chip.{spareOnly}
+use Rattle.model.specs.Stores.{tagOf}
 use Rattle.model.specs.Image.{epochOf, used}
-use Rattle.spare.proofs.Looked.{seen-blank, seen-programmed}
-use Rattle.spare.specs.Fields.{fields}
+use Rattle.model.specs.Spare.{epoch}
+use native.Mathlib.Omega.{arith}
+use mathlib.Core.Path.{_≡_, sym, ap, _∙_}
+use mathlib.Core.Bool.{true, false}
+use borrow.Author.Needs.{needs}
 use Rattle.image.proofs.epoch_of.Statement.{statement}
 use Rattle.image.proofs.epoch_of.Tie as tie
 
-look-requires : tie.Need-look-requires
-look-requires c κs = search needs
+mul-epoch-at : tie.Need-mul-epoch-at
+mul-epoch-at c = let p = c .before .before .pre in omega (arith, first-inside (p .0) (p .1))
 
-enum-told : tie.Need-enum-told
-enum-told c = search needs
-
-enum-known-page : tie.Need-enum-known-page
-enum-known-page c = search needs
+epoch-at-requires : tie.Need-epoch-at-requires
+epoch-at-requires c κs = let p = c .before .before .pre in first-inside (p .0) (p .1)
 
 returns : tie.Need-returns
 unfolding epochOf used
-returns c = rw (seen-blank _ (sym (c .before .before .look .ensures) ∙ c .enum-told .given .1))
+returns c = let a = c .before .before .before .before .args in let d = spareOnly (a .spare .now) in
+    let e = c .before .epoch-at .ensures ∙ ap epoch (first-tag (a .z) d (a .c)) in
+    rw (epoch-used (tagOf (a .z) d (a .c) 0) (λ q. c .if1 .taken (e ∙ q))) e
+
+used-requires : tie.Need-used-requires
+used-requires c κs = search needs
 
 returns-2 : tie.Need-returns-2
-unfolding epochOf used fields
-returns-2 c = let e = seen-programmed _ _ (sym (c .before .before .before .look .ensures) ∙ c .before .page .given .1) in rw (e .0) (ap (λ f. f .epoch) (sym (e .1)))
+unfolding epochOf
+returns-2 c = let a = c .before .before .before .before .before .before .args in let d = spareOnly (a .spare .now) in
+    let u : used (a .z) d (a .c) ≡ true = sym (c .before .used .ensures) ∙ c .if2 .taken in
+    rw u (c .before .before .before .epoch-at .ensures ∙ ap epoch (first-tag (a .z) d (a .c)))
+
+returns-3 : tie.Need-returns-3
+unfolding epochOf
+returns-3 c = let a = c .before .before .before .before .before .before .args in let d = spareOnly (a .spare .now) in
+    let u : used (a .z) d (a .c) ≡ false = sym (c .before .used .ensures) ∙ c .if2 .left in
+    rw u
 
 pub epoch-of-spec : {M : Type 1} → statement M
-epoch-of-spec = tie.close (tie.spec look-requires enum-told enum-known-page returns returns-2)
+epoch-of-spec =
+    tie.close (tie.spec mul-epoch-at epoch-at-requires returns used-requires returns-2 returns-3)
