@@ -7,7 +7,7 @@ GOAL = 2
 
 
 def chart(groups):
-    """Bars of (name, ratio, least, greatest) in titled groups, with a line at the goal."""
+    """Bars of (name, ratio, low, high) in titled groups, with a line at the goal."""
     rows = [row for _, group in groups for row in group]
     top = max([GOAL * 1.25] + [row[1] * 1.15 for row in rows])
     height = TOP + LINE * (len(rows) + len(groups)) + 20
@@ -34,7 +34,7 @@ def head(height):
             f'viewBox="0 0 {width} {height}" font-family="sans-serif" font-size="12">\n'
             f'<rect width="{width}" height="{height}" fill="white"/>\n'
             + label(8, 20, "Time of the proved code over that of the Rust engine (bar: ratio of medians; "
-                           "line: least to greatest repeat)", "start"))
+                           "line: quartiles of the repeats)", "start"))
 
 
 def label(x, y, text, anchor, weight="normal"):
@@ -55,11 +55,11 @@ def axis(top, height):
                      for value in range(int(top) + 1))
 
 
-def bar(y, top, name, ratio, least, greatest):
+def bar(y, top, name, ratio, low, high):
     """A row: its name, its bar, the spread over it and the ratio in figures."""
     colour = "#4a7ebb" if ratio <= GOAL else "#d98c3f"
     left, end, middle = place(0, top), place(ratio, top), y + LINE / 2
-    from_x, to_x = place(least, top), place(greatest, top)
+    from_x, to_x = place(low, top), place(high, top)
     return "\n".join([
         label(LABELS - 8, middle + 4, name, "end"),
         f'<rect x="{left}" y="{y + 4}" width="{end - left:.1f}" height="{LINE - 8}" fill="{colour}"/>',

@@ -16,9 +16,10 @@ def ratio(row):
 
 
 def spread(row):
-    """The least and the greatest ratio of one repeat: how noisy the row is."""
+    """The quartiles of the ratios of single repeats: how noisy the row is."""
     ratios = [one / other for one, other in zip(row.proved, row.rust)]
-    return min(ratios), max(ratios)
+    low, _, high = statistics.quantiles(ratios, n=4)
+    return low, high
 
 
 def count_ratio(row):

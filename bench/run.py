@@ -75,13 +75,13 @@ def driving_rows(program, options):
 
 def table(rows, unit, scale):
     """Rows as a table of Markdown."""
-    lines = [f"| row | what | proved ({unit}) | Rust ({unit}) | ratio | least to greatest "
+    lines = [f"| row | what | proved ({unit}) | Rust ({unit}) | ratio | quartiles "
              "| instructions, proved | ratio of instructions |", "|---" * 8 + "|"]
     for row in rows:
         proved, rust = (statistics.median(times) * scale for times in (row.proved, row.rust))
-        least, greatest = measure.spread(row)
+        low, high = measure.spread(row)
         lines.append(f"| {row.name} | {row.what} | {proved:.1f} | {rust:.1f} | {measure.ratio(row):.2f} | "
-                     f"{least:.2f} to {greatest:.2f} | {row.proved_count:,.0f} | "
+                     f"{low:.2f} to {high:.2f} | {row.proved_count:,.0f} | "
                      f"{measure.count_ratio(row):.2f} |")
     return "\n".join(lines) + "\n"
 
