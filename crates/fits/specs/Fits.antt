@@ -1,9 +1,11 @@
 -- Number 5 in parts: what it says of the queues, of the spare fields, and of the numbers.
-use mathlib.Core.Bool.{Bool}
+use mathlib.Core.Bool.{Bool, true, false}
 use mathlib.Core.List.{[], _∷_}
 use lib.ListN.{length}
 use lib.Dec.{leb, ltb}
 use Rattle.lists.specs.Lists.{every, all, distinct}
+use Rattle.model.specs.declared.Sizes.{Sizes}
+use Rattle.model.specs.declared.Entry.{Entry}
 use Rattle.model.specs.Sizes.{Device}
 use Rattle.model.specs.State.{State, backs, readAgrees, writeAgrees, allBlank, topEpoch}
 
@@ -14,6 +16,11 @@ queuesFit s = every
     ∷ leb (length (s .writes)) (s .sizes .w)
     ∷ distinct (backs (s .reads))
     ∷ distinct (backs (s .writes)) ∷ [])
+
+-- an entry of the write queue, or of the read queue
+abbrev pub agrees : Sizes → Device → Bool → Entry → Bool
+agrees z d true = writeAgrees z d
+agrees z d false = readAgrees z d
 
 -- none "disagrees with spare fields, a queued read bucket is incomplete, a free bucket has a non-blank page, a priority is above P"
 unfoldable pub tagsAgree : State → Device → Bool

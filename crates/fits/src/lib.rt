@@ -12,7 +12,7 @@ ghost use Rattle.image.specs.Chip.{Chip, spareOnly};
 ghost use Rattle.fifo.specs.View.{listOf};
 ghost use Rattle.queue.specs.View.{entriesOf};
 ghost use Rattle.state.specs.View.{viewOf};
-ghost use Rattle.fits.specs.Fits.{queuesFit, tagsAgree, numbersFit};
+ghost use Rattle.fits.specs.Fits.{queuesFit, agrees, tagsAgree, numbersFit};
 
 // A bucket's spare fields are read only once the queues are known to hold buckets of the chip alone. Number 4 goes before.
 pub fn state_fits(s: State, spare: &[u8]) -> bool
@@ -45,8 +45,8 @@ fn tags_agree(s: State, spare: &[u8]) -> bool
     ensures { λ r. ⌜ r ≡ tagsAgree (viewOf s) (spareOnly (now (spare .entry))) ⌝ }
 {
     let z = s.sizes;
-    let reads = reads_agree(s.reads, z, spare);
-    let writes = writes_agree(s.writes, z, spare);
+    let reads = queue_agrees(s.reads, false, z, spare);
+    let writes = queue_agrees(s.writes, true, z, spare);
     let free = free_blank(s.free, z, spare);
     reads & writes & free
 }
@@ -97,28 +97,23 @@ fn write_agrees(e: Entry, z: Sizes, spare: &[u8]) -> bool
     write & back & (e.priority as usize <= z.p)
 }
 
-fn reads_agree(queue: queue::Queue, z: Sizes, spare: &[u8]) -> bool
+fn entry_agrees(e: Entry, written: bool, z: Sizes, spare: &[u8]) -> bool
     requires { ⌜ Chip z (now spare) ⌝ }
-    requires { ⌜ all (isBelow (z .c)) (caches (entriesOf queue)) ≡ true ⌝ }
-    ensures { λ r. ⌜ r ≡ all (readAgrees z (spareOnly (now (spare .entry)))) (entriesOf queue) ⌝ }
+    requires { ⌜ e .cache < z .c ⌝ }
+    ensures { λ r. ⌜ r ≡ agrees z (spareOnly (now (spare .entry))) written e ⌝ }
 {
-    let n = queue.used();
-    let items = queue.items;
-    let mut agree = true;
-    let mut i = 0;
-    while i < n {
-        let e = items[i];
-        let agrees = read_agrees(e, z, spare);
-        agree = agree & agrees;
-        i += 1;
+    if written {
+        write_agrees(e, z, spare)
+    } else {
+        read_agrees(e, z, spare)
     }
-    agree
 }
 
-fn writes_agree(queue: queue::Queue, z: Sizes, spare: &[u8]) -> bool
+// All entries of the write queue, or of the read queue.
+fn queue_agrees(queue: queue::Queue, written: bool, z: Sizes, spare: &[u8]) -> bool
     requires { ⌜ Chip z (now spare) ⌝ }
     requires { ⌜ all (isBelow (z .c)) (caches (entriesOf queue)) ≡ true ⌝ }
-    ensures { λ r. ⌜ r ≡ all (writeAgrees z (spareOnly (now (spare .entry)))) (entriesOf queue) ⌝ }
+    ensures { λ r. ⌜ r ≡ all (agrees z (spareOnly (now (spare .entry))) written) (entriesOf queue) ⌝ }
 {
     let n = queue.used();
     let items = queue.items;
@@ -126,7 +121,7 @@ fn writes_agree(queue: queue::Queue, z: Sizes, spare: &[u8]) -> bool
     let mut i = 0;
     while i < n {
         let e = items[i];
-        let agrees = write_agrees(e, z, spare);
+        let agrees = entry_agrees(e, written, z, spare);
         agree = agree & agrees;
         i += 1;
     }

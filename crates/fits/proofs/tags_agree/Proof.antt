@@ -10,11 +10,11 @@ use Rattle.fits.specs.Fits.{tagsAgree}
 use Rattle.fits.proofs.tags_agree.Statement.{statement}
 use Rattle.fits.proofs.tags_agree.Tie as tie
 
-reads-agree-requires : tie.Need-reads-agree-requires
-reads-agree-requires c κs = (c .before .before .pre .0, queues-below (viewOf (c .before .before .args .s)) (c .before .before .pre .1 .1) .reads)
+queue-agrees-requires : tie.Need-queue-agrees-requires
+queue-agrees-requires c κs = (c .before .before .pre .0, queues-below (viewOf (c .before .before .args .s)) (c .before .before .pre .1 .1) .reads)
 
-writes-agree-requires : tie.Need-writes-agree-requires
-writes-agree-requires c κs = (c .before .before .before .pre .0, queues-below (viewOf (c .before .before .before .args .s)) (c .before .before .before .pre .1 .1) .writes)
+queue-agrees-requires-2 : tie.Need-queue-agrees-requires-2
+queue-agrees-requires-2 c κs = (c .before .before .before .pre .0, queues-below (viewOf (c .before .before .before .args .s)) (c .before .before .before .pre .1 .1) .writes)
 
 free-blank-requires : tie.Need-free-blank-requires
 free-blank-requires c κs = (c .before .before .before .before .pre .0, (c .before .before .before .before .pre .1 .0, queues-below (viewOf (c .before .before .before .before .args .s)) (c .before .before .before .before .pre .1 .1) .free))
@@ -23,8 +23,8 @@ returns : tie.Need-returns
 unfolding tagsAgree
 returns c = let s = c .before .before .before .before .before .args .s in
     let d = spareOnly (c .before .before .before .before .before .args .spare .now) in
-    rw (c .free-blank .ensures, c .before .writes-agree .ensures, c .before .before .reads-agree .ensures) (three (all (readAgrees (s .sizes) d) (entriesOf (s .reads))) (all (writeAgrees (s .sizes) d) (entriesOf (s .writes))) (all (allBlank (s .sizes) d) (listOf (s .free))))
+    rw (c .free-blank .ensures, c .before .queue-agrees2 .ensures, c .before .before .queue-agrees .ensures) (three (all (readAgrees (s .sizes) d) (entriesOf (s .reads))) (all (writeAgrees (s .sizes) d) (entriesOf (s .writes))) (all (allBlank (s .sizes) d) (listOf (s .free))))
 
 pub tags-agree-spec : {M : Type 1} → statement M
 tags-agree-spec =
-    tie.close (tie.spec reads-agree-requires writes-agree-requires free-blank-requires returns)
+    tie.close (tie.spec queue-agrees-requires queue-agrees-requires-2 free-blank-requires returns)

@@ -6,18 +6,19 @@ use lib.ListN.{length, take}
 use borrow.Author.Needs.{needs}
 use Rattle.lists.proofs.Arrays.{tested-more, take-used, length-mapped}
 use Rattle.lists.specs.Lists.{all}
-use Rattle.model.specs.State.{caches, isBelow, writeAgrees}
+use Rattle.model.specs.State.{caches, isBelow}
+use Rattle.fits.specs.Fits.{agrees}
 use Rattle.image.specs.Chip.{spareOnly}
 use Rattle.queue.specs.View.{noEntry}
 use Rattle.state.proofs.Below.{cache-below}
-use Rattle.fits.proofs.writes_agree.Statement.{statement}
-use Rattle.fits.proofs.writes_agree.Tie as tie
+use Rattle.fits.proofs.queue_agrees.Statement.{statement}
+use Rattle.fits.proofs.queue_agrees.Tie as tie
 
 abbrev Inv-loop : tie.InvT-loop
-Inv-loop z spare n items agree₀ i₀ agree i = (i ≤ n) × (n ≤ 64) × (length items ≡ 64) × (all (isBelow (z .c)) (caches (take n items)) ≡ true) × (agree ≡ all (writeAgrees z (spareOnly spare)) (take i items))
+Inv-loop written z spare n items agree₀ i₀ agree i = (i ≤ n) × (n ≤ 64) × (length items ≡ 64) × (all (isBelow (z .c)) (caches (take n items)) ≡ true) × (agree ≡ all (agrees z (spareOnly spare) written) (take i items))
 
 abbrev μ-loop : tie.MeasureT-loop
-μ-loop z spare n items agree₀ i₀ agree i = n - i
+μ-loop written z spare n items agree₀ i₀ agree i = n - i
 
 used-requires : tie.Need-used-requires Inv-loop μ-loop
 used-requires c κs = search needs
@@ -34,8 +35,8 @@ mul-e c = search needs
 array-copy-out-e : tie.Need-array-copy-out-e Inv-loop μ-loop
 array-copy-out-e c = search needs
 
-write-agrees-requires : tie.Need-write-agrees-requires Inv-loop μ-loop
-write-agrees-requires c κs = let l = c .before .before .loop in
+entry-agrees-requires : tie.Need-entry-agrees-requires Inv-loop μ-loop
+entry-agrees-requires c κs = let l = c .before .before .loop in
     let q = c .before .before .before .before .before .before .args in
     (c .before .before .before .before .before .before .pre .0, cache-below (q .z .c) (c .before .before .before .before .used .result) (q .queue .items) (l .i) (l .inv .3) (omega arith) (omega arith))
 
@@ -48,7 +49,7 @@ loop-less c = search needs
 loop-again : tie.Need-loop-again Inv-loop μ-loop
 loop-again c = let l = c .before .before .before .loop in
     let q = c .before .before .before .before .before .before .before .args in
-    (search needs, l .inv .1, l .inv .2, l .inv .3, rw (l .inv .4, c .write-agrees .ensures) (sym (tested-more (writeAgrees (q .z) (spareOnly (q .spare .now))) (l .i) (q .queue .items) noEntry (omega arith))))
+    (search needs, l .inv .1, l .inv .2, l .inv .3, rw (l .inv .4, c .entry-agrees .ensures) (sym (tested-more (agrees (q .z) (spareOnly (q .spare .now)) (q .written)) (l .i) (q .queue .items) noEntry (omega arith))))
 
 returns : tie.Need-returns Inv-loop μ-loop
 returns c = let l = c .before .loop in
@@ -57,8 +58,8 @@ returns c = let l = c .before .loop in
     let e : l .i ≡ u .result = omega arith in
     l .inv .4 ∙ rw (e, take-used (u .result) (q .len) (q .items) (u .ensures .0))
 
-pub writes-agree-spec : {M : Type 1} → statement M
-writes-agree-spec =
+pub queue-agrees-spec : {M : Type 1} → statement M
+queue-agrees-spec =
     tie.close
     (tie.spec
     Inv-loop
@@ -67,7 +68,7 @@ writes-agree-spec =
     loop-holds
     mul-e
     array-copy-out-e
-    write-agrees-requires
+    entry-agrees-requires
     add-i
     loop-less
     loop-again
