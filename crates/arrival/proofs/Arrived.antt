@@ -32,17 +32,18 @@ pub same-fits : (z : Sizes) (d : Device) (b n : ℕ) (s : State) → fits z (spa
 unfolding fits blanks pageBlank tagOf
 same-fits z d b n s = refl
 
-pub appended-by : (z : Sizes) (d : Device) (b off : ℕ) (bytes : List ℕ) (s : State) (r : Run) (w left e pages : ℕ)
-    → w ≡ cacheOf b (s .writes) → left ≡ blanks z (spareOnly (d .spare)) w → e ≡ epochOf z (spareOnly (d .spare)) w → pages ≡ pagesFor z (length bytes)
-    → record { run = runAll z (logStores z w (z .p - left) writeKind e b off bytes) r; state = accept b (left - pages) s } ≡ after z (appendLog z d b off bytes s) r
+pub appended-by : (z : Sizes) (b off : ℕ) (bytes : List ℕ) (s : State) (r : Run) (w left e pages : ℕ)
+    → w ≡ cacheOf b (s .writes) → left ≡ blanks z (spareOnly (r .device .spare)) w → e ≡ epochOf z (spareOnly (r .device .spare)) w → pages ≡ pagesFor z (length bytes)
+    → record { run = runAll z (logStores z w (z .p - left) writeKind e b off bytes) r; state = accept b (left - pages) s } ≡ after z (appendLog z b off bytes) s r
 unfolding after appendLog
-appended-by z d b off bytes s r w left e pages is-bucket is-left is-epoch is-pages = rw (is-pages, is-epoch ∙ same-epoch z d w, is-left ∙ same-blanks z d w, is-bucket)
+appended-by z b off bytes s r w left e pages is-bucket is-left is-epoch is-pages =
+    rw (is-pages, is-epoch ∙ same-epoch z (r .device) w, is-left ∙ same-blanks z (r .device) w, is-bucket)
 
-pub started-by : (z : Sizes) (b off : ℕ) (bytes : List ℕ) (s : State) (r : Run) (pages : ℕ) {p : Progress} → p ≡ after z (freshLog z writeKind b off bytes s) r
-    → pages ≡ pagesFor z (length bytes) → (d : Device)
-    → record { run = p .run; state = accept b (z .p - pages) (takeWrite b (p .state)) } ≡ after z (makeRoom s then startLog z d b off bytes) r
+pub started-by : (z : Sizes) (b off : ℕ) (bytes : List ℕ) (s : State) (r : Run) (pages : ℕ) {p : Progress} → p ≡ after z (freshLog z writeKind b off bytes) s r
+    → pages ≡ pagesFor z (length bytes)
+    → record { run = p .run; state = accept b (z .p - pages) (takeWrite b (p .state)) } ≡ after z (makeRoom z then startLog z b off bytes) s r
 unfolding after freshLog startLog _then_
-started-by z b off bytes s r pages e h d =
+started-by z b off bytes s r pages e h =
     ap (λ (q : Progress). record { run = q .run; state = accept b (z .p - pages) (takeWrite b (q .state)) }) e ∙ rw h
 
 pub arrival-bounded : {s t : State} {n : ℕ} (b : ℕ) → Starts s n → Roomed s t → Bounded (takeWrite b t)

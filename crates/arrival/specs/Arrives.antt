@@ -5,7 +5,7 @@ use lib.ListN.{length}
 use Rattle.model.specs.Sizes.{bucketSize, pagesFor}
 use Rattle.model.specs.Image.{blanks}
 use Rattle.model.specs.State.{State, cacheOf}
-use Rattle.geometry.specs.Geometry.{Limits}
+use Rattle.model.proofs.Limits.{Limits}
 use Rattle.image.specs.Chip.{spareOnly}
 use Rattle.copying.specs.Fresh.{Fresh}
 

@@ -6,11 +6,11 @@ use steps::Turn;
 ghost use mathlib.Core.Path.{_≡_};
 ghost use Prim.Native.Nat.{_≤_, _<_};
 ghost use lib.ListN.{length};
-ghost use Rattle.model.specs.Sizes.{Device, pagesFor};
+ghost use Rattle.model.specs.Sizes.{pagesFor};
 ghost use Rattle.model.specs.State.{cacheOf};
 ghost use Rattle.model.specs.Steps.{_then_, makeRoom};
 ghost use Rattle.model.specs.Operations.{fits, appendLog, startLog};
-ghost use Rattle.geometry.specs.Geometry.{device, Lent};
+ghost use Rattle.geometry.specs.Geometry.{Lent};
 ghost use Rattle.image.specs.Chip.{Chip, spareOnly};
 ghost use Rattle.meter.specs.Run.{running};
 ghost use Rattle.queue.specs.View.{entriesOf};
@@ -45,7 +45,7 @@ pub fn append_log(
 ) -> Turn
     requires { ⌜ Lent (s .sizes) (now flash) (now spare) (now disk) ⌝ }
     requires { ⌜ Appends (viewOf s) b (length (now bytes)) (now spare) ⌝ }
-    ensures { λ r. ⌜ reached (now (flash .exit)) (now (spare .exit)) (now (disk .exit)) r ≡ after (s .sizes) (appendLog (s .sizes) (device (now (flash .entry)) (now (spare .entry)) (now (disk .entry))) b offset (now (bytes .entry)) (viewOf s)) (running (now (flash .entry)) (now (spare .entry)) (now (disk .entry)) meter) ⌝ }
+    ensures { λ r. ⌜ reached (now (flash .exit)) (now (spare .exit)) (now (disk .exit)) r ≡ after (s .sizes) (appendLog (s .sizes) b offset (now (bytes .entry))) (viewOf s) (running (now (flash .entry)) (now (spare .entry)) (now (disk .entry)) meter) ⌝ }
     ensures { λ _. ⌜ Lent (s .sizes) (now (flash .exit)) (now (spare .exit)) (now (disk .exit)) ⌝ }
 {
     let z = s.sizes;
@@ -81,7 +81,7 @@ pub fn start_log(
 ) -> Turn
     requires { ⌜ Lent (s .sizes) (now flash) (now spare) (now disk) ⌝ }
     requires { ⌜ Starts (viewOf s) (length (now bytes)) ⌝ }
-    ensures { λ r. ⌜ ((d : Device) → reached (now (flash .exit)) (now (spare .exit)) (now (disk .exit)) r ≡ after (s .sizes) (makeRoom (viewOf s) then startLog (s .sizes) d b offset (now (bytes .entry))) (running (now (flash .entry)) (now (spare .entry)) (now (disk .entry)) meter)) ⌝ }
+    ensures { λ r. ⌜ reached (now (flash .exit)) (now (spare .exit)) (now (disk .exit)) r ≡ after (s .sizes) (makeRoom (s .sizes) then startLog (s .sizes) b offset (now (bytes .entry))) (viewOf s) (running (now (flash .entry)) (now (spare .entry)) (now (disk .entry)) meter) ⌝ }
     ensures { λ _. ⌜ Lent (s .sizes) (now (flash .exit)) (now (spare .exit)) (now (disk .exit)) ⌝ }
 {
     let z = s.sizes;

@@ -6,7 +6,7 @@ use lib.ListN.{length}
 use Rattle.model.specs.declared.Sizes.{Sizes}
 use Rattle.model.specs.Sizes.{Device, flashSize, spareSize, diskSize}
 use Rattle.model.specs.Driving.{giveBack}
-use Rattle.geometry.specs.Geometry.{Limits}
+use Rattle.model.proofs.Limits.{Limits}
 use Rattle.outcome.specs.Handed.{Handed}
 
 -- "Its flash buffer is 32,768 bytes, spare areas included; its disk is 16,384"

@@ -4,37 +4,31 @@ use mathlib.Core.Path.{_≡_, refl, sym, _∙_}
 use mathlib.Core.Bool.{Bool, true, false, true≢false}
 use mathlib.Core.List.{List, [], _∷_}
 use lib.Dec.{eqb}
-use borrow.Author.Tests.{eqb-true, ltb-true, not-true}
+use borrow.Author.Tests.{eqb-true, ltb-true}
 use Rattle.lists.specs.Lists.{if_then_else_, all}
 use Rattle.lists.proofs.Tests.{and-left, and-right, every-at}
 use Rattle.model.specs.declared.Sizes.{Sizes}
 use Rattle.model.specs.declared.Entry.{Entry}
-use Rattle.model.specs.Sizes.{Device}
-use Rattle.model.specs.Spare.{blank}
-use Rattle.model.specs.Stores.{tagOf}
+use Rattle.model.specs.Sizes.{Device, body}
 use Rattle.model.specs.Image.{used, backOf, isWrite, isCopy, complete}
 use Rattle.model.specs.State.{State, isOf, holds, cacheBucket, caches, isBelow, readAgrees, writeAgrees, stateFits}
-use Rattle.model.proofs.Formed.{formed-of, page-fields}
+use Rattle.model.proofs.Formed.{formed-of}
+use Rattle.model.proofs.BucketKinds.{back-below}
 use Rattle.checks.proofs.Opens.{Image, Open, open-orderly}
 
 module _ {z : Sizes} {d : Device} (o : Image z d) where
-  -- the back-end bucket of a programmed page
-  pub used-back : (c : ℕ) → c < z .c → used z d c ≡ true → backOf z d c < z .b
-  unfolding used backOf
-  used-back c h u = page-fields z d c (λ k hk. formed-of z d (o .formed) .pages-fit c k h hk) 0 (o .limits .p-low) (not-true (blank (tagOf z d c 0)) u) .back-below
-
   -- a queue whose entries agree with the spare fields
   module _ (agrees : Entry → Bool) (shown : (e : Entry) → agrees e ≡ true → (used z d (e .cache) ≡ true) × (backOf z d (e .cache) ≡ e .back)) where
-    agreeing-back : (b : ℕ) (l : List Entry) → all agrees l ≡ true → all (isBelow (z .c)) (caches l) ≡ true → holds b l ≡ true → b < z .b
+    agreeing-back : (b : ℕ) (l : List Entry) → all agrees l ≡ true → all (isBelow (body z)) (caches l) ≡ true → holds b l ≡ true → b < z .b
     unfolding all caches cacheBucket holds isBelow isOf
     agreeing-back b [] a k h = absurd (true≢false (sym h))
     agreeing-back b (e ∷ l) a k h =
-        go (eqb (e .back) b) refl h (agreeing-back b l (and-right (agrees e) (all agrees l) a) (and-right (isBelow (z .c) (e .cache)) (all (isBelow (z .c)) (caches l)) k))
+        go (eqb (e .back) b) refl h (agreeing-back b l (and-right (agrees e) (all agrees l) a) (and-right (isBelow (body z) (e .cache)) (all (isBelow (body z)) (caches l)) k))
       where
         go : (t : Bool) → eqb (e .back) b ≡ t → (if t then true else holds b l) ≡ true → (holds b l ≡ true → b < z .b) → b < z .b
         go true q g later =
             let s = shown e (and-left (agrees e) (all agrees l) a) in
-            rw (s .1 ∙ eqb-true (e .back) b q) at (used-back (e .cache) (ltb-true (e .cache) (z .c) (and-left (isBelow (z .c) (e .cache)) (all (isBelow (z .c)) (caches l)) k)) (s .0))
+            rw (s .1 ∙ eqb-true (e .back) b q) at (back-below z d (formed-of z d (o .formed)) (o .limits .p-low) (e .cache) (ltb-true (e .cache) (body z) (and-left (isBelow (body z) (e .cache)) (all (isBelow (body z)) (caches l)) k)) (s .0))
         go false q g later = later g
 
 module _ {s : State} {d : Device} (o : Open s d) (b : ℕ) where

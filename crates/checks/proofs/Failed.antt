@@ -8,7 +8,7 @@ use lib.Dec.{leb}
 use borrow.Author.Tests.{leb-true}
 use Rattle.lists.specs.Lists.{all}
 use Rattle.lists.proofs.Tests.{and-left, and-right}
-use Rattle.model.specs.Calls.{Test, firstFailed}
+use Rattle.model.specs.Tests.{Test, firstFailed}
 
 -- a test whose number says that it failed
 unfoldable pub numbered : Test → Bool

@@ -10,10 +10,13 @@ use Rattle.model.specs.Sizes.{Device, limits}
 use Rattle.model.specs.Image.{wellFormed}
 use Rattle.model.specs.State.{State, stateFits}
 use Rattle.model.specs.Operations.{lastEpoch}
-use Rattle.model.specs.Calls.{Test, firstFailed, lentTests, runningTests, placeTests}
+use Rattle.model.specs.Tests.{Test, firstFailed}
+use Rattle.model.specs.Calls.{lentTests, runningTests, placeTests}
 use Rattle.model.proofs.Calling.{Range, first-passed, place-passed}
-use Rattle.geometry.specs.Geometry.{Limits, Lent}
-use Rattle.geometry.proofs.Passed.{limits-hold, lengths-hold, lent-passed}
+use Rattle.model.proofs.Limits.{Limits}
+use Rattle.geometry.specs.Geometry.{Lent}
+use Rattle.model.proofs.Limits.{limits-of}
+use Rattle.geometry.proofs.Passed.{lengths-hold, lent-passed}
 use Rattle.image.specs.Chip.{Chip, spareOnly}
 use Rattle.rules.proofs.SameSpare.{same-well-formed}
 use Rattle.state.proofs.Allocate.{Queued, queues-hold, bounded}
@@ -38,7 +41,7 @@ image-opens z d h =
     let one = first-passed 0 _ _ h in
     let two = first-passed 1 _ _ (one .1) in
     let four = first-passed 3 _ _ (two .1) in
-    record { limits = limits-hold z (one .0); lent = lengths-hold z d (two .0); formed = four .0 }
+    record { limits = limits-of z (one .0); lent = lengths-hold z d (two .0); formed = four .0 }
 
 -- numbers 1 to 5 are passed
 pub record Open (s : State) (d : Device) : Type 0 where
@@ -57,7 +60,7 @@ module _ (s : State) (d : Device) where
       let four = first-passed 3 _ _ (three .1) in
       let five = first-passed 4 _ _ (four .1) in
       record {
-        image = record { limits = limits-hold (s .sizes) (one .0); lent = lengths-hold (s .sizes) d (two .0); formed = four .0 };
+        image = record { limits = limits-of (s .sizes) (one .0); lent = lengths-hold (s .sizes) d (two .0); formed = four .0 };
         running = three .0;
         limited = one .0;
         fits = five .0;

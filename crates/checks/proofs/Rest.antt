@@ -10,7 +10,8 @@ use Rattle.model.specs.Sizes.{Device}
 use Rattle.model.specs.Image.{wellFormed}
 use Rattle.model.specs.State.{State, stateFits}
 use Rattle.model.specs.Operations.{lastEpoch}
-use Rattle.model.specs.Calls.{Test, firstFailed, lentTests, runningTests, rangeFits, placeTests}
+use Rattle.model.specs.Tests.{Test, firstFailed}
+use Rattle.model.specs.Calls.{lentTests, runningTests, rangeFits, placeTests}
 use Rattle.checks.proofs.Failed.{numbered, goes-on}
 
 pub lent-numbered : (z : Sizes) (d : Device) → all numbered (lentTests z d) ≡ true

@@ -6,8 +6,10 @@ ghost use mathlib.Core.List.{[], _∷_, _++_};
 ghost use lib.Dec.{leb};
 ghost use Rattle.model.specs.Image.{wellFormed};
 ghost use Rattle.model.specs.Operations.{lastEpoch};
-ghost use Rattle.model.specs.Calls.{firstFailed, lentTests, runningTests, rangeFits, placeTests};
-ghost use Rattle.geometry.specs.Geometry.{device, Limits};
+ghost use Rattle.model.specs.Tests.{firstFailed};
+ghost use Rattle.model.specs.Calls.{lentTests, runningTests, rangeFits, placeTests};
+ghost use Rattle.model.proofs.Limits.{Limits};
+ghost use Rattle.geometry.specs.Geometry.{device};
 ghost use Rattle.state.specs.View.{viewOf};
 
 // Numbers 1, 2 and 4, of recover.

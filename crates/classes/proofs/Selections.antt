@@ -6,14 +6,14 @@ use mathlib.Core.List.{List, [], _∷_, _++_, append-nil}
 use native.Mathlib.Omega.{arith}
 use lib.ListN.{length, take, getD, length-append}
 use lib.Seq.{getD-take, length-take-le}
-use lib.Dec.{eqb, ltb, eqb·suc-zero}
-use borrow.Author.Tests.{lt-ltb, eq-eqb}
+use lib.Dec.{eqb, eqb·suc-zero}
+use borrow.Author.Tests.{eq-eqb}
 use Rattle.lists.specs.Lists.{if_then_else_, all, any, keep, below, member, times}
 use Rattle.lists.specs.Arrays.{joined}
 use Rattle.lists.proofs.Tests.{and-left, and-right, and-true}
 use Rattle.lists.proofs.Rows.{below-more}
 use Rattle.lists.proofs.Turns.{keep-append}
-use Rattle.lists.proofs.Counts.{times-cons, times-self, in-all}
+use Rattle.lists.proofs.Counts.{times-cons, times-self}
 use Rattle.lists.proofs.Orders.{kept-below, below-kept, in-any, member-in}
 use Rattle.lists.proofs.Arrays.{all-at, keep-step, keep-length, joined-fits}
 
@@ -96,18 +96,7 @@ module _ (s t : ℕ → Bool) where
     any-agree l (λ y q. h y (omega (arith, times-cons y x l))),
   )
 
--- numbers below a bound
-pub in-below : (x n : ℕ) → 1 ≤ times x (below n) → x < n
-unfolding keep
-in-below x n h = kept-below (λ y. true) x n (rw (keep-all (below n)) h) .1
-  where
-    keep-all : (l : List ℕ) → keep (λ y. true) l ≡ l
-    keep-all [] = refl
-    keep-all (y ∷ l) = ap (λ r. y ∷ r) (keep-all l)
-
-pub all-below : (n : ℕ) → all (λ x. ltb x n) (below n) ≡ true
-all-below n = in-all (λ x. ltb x n) (below n) (λ x h. lt-ltb x n (in-below x n h))
-
+-- a number below the bound, among those that pass
 pub member-kept : (t : ℕ → Bool) (x n : ℕ) → x < n → member x (keep t (below n)) ≡ t x
 unfolding member
 member-kept t x n h = go (t x) refl (member x (keep t (below n))) refl

@@ -6,7 +6,7 @@ use mathlib.Core.List.{List}
 use lib.Dec.{ltb, eqb}
 use Rattle.lists.specs.Lists.{all, any, keep, member}
 use Rattle.model.specs.declared.Sizes.{Sizes}
-use Rattle.model.specs.Sizes.{Device}
+use Rattle.model.specs.Sizes.{Device, body}
 use Rattle.model.specs.Image.{epochOf, backOf, isWrite, isCopy, isDirty}
 use Rattle.model.specs.State.{isBelow}
 use Rattle.model.specs.Recover.{buckets, amongNewest, isChosen, isOnly, keptWrites, isDroppedWrite, keptCopies, isDroppedCopy, isOldCopy, isFree}
@@ -18,9 +18,9 @@ use Rattle.classes.specs.declared.Rule.the-variants.{Being, Absent, Unma
 use Rattle.classes.specs.declared.WriteClasses.{WriteClasses}
 use Rattle.classes.specs.declared.CopyClasses.{CopyClasses}
 
--- a list of the chip's buckets
+-- a list of buckets that may stand in queues
 abbrev pub Within : Sizes → List ℕ → Type 0
-Within z l = all (isBelow (z .c)) l ≡ true
+Within z l = all (isBelow (body z)) l ≡ true
 
 module _ (z : Sizes) (d : Device) where
   -- a bucket of the back-end bucket b

@@ -81,9 +81,10 @@ fn is_chosen(z: Sizes, c: usize, spare: &[u8]) -> bool
     if !image::complete(z, c, spare) {
         return false;
     }
+    let end = geometry::body(z);
     let mut newest = true;
     let mut e = 0;
-    while e < z.c {
+    while e < end {
         newest = newest & gives_way(z, c, e, spare);
         e += 1;
     }
@@ -113,9 +114,10 @@ fn is_only(z: Sizes, w: usize, spare: &[u8]) -> bool
     if !image::is_write(z, w, spare) {
         return false;
     }
+    let end = geometry::body(z);
     let mut only = true;
     let mut e = 0;
-    while e < z.c {
+    while e < end {
         only = only & is_no_other(z, w, e, spare);
         e += 1;
     }
@@ -206,10 +208,11 @@ pub fn buckets(z: Sizes, kind: Kind, spare: &[u8]) -> Fifo
     requires { ⌜ Chip z (now spare) ⌝ }
     ensures { λ r. ⌜ listOf r ≡ buckets z (spareOnly (now (spare .entry))) (isKind z (spareOnly (now (spare .entry))) kind) ⌝ }
 {
+    let end = geometry::body(z);
     let mut items = [0u8; 256];
     let mut n = 0;
     let mut c = 0;
-    while c < z.c {
+    while c < end {
         if is_a(z, kind, c, spare) {
             items[n] = c as u8;
             n += 1;

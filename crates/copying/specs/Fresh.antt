@@ -7,12 +7,12 @@ use Rattle.lists.specs.Lists.{head}
 use Rattle.model.specs.declared.Sizes.{Sizes}
 use Rattle.model.specs.Sizes.{bucketSize}
 use Rattle.model.specs.State.{State, without}
-use Rattle.model.specs.Steps.{Plan, _then_, makeRoom, logStores}
+use Rattle.model.specs.Steps.{Step, _then_, makeRoom, logStores}
 use Rattle.steps.specs.Ready.{Ready}
 
 -- the log goes into the free head, which stays in the queue
-unfoldable pub freshLog : Sizes → (kind b off : ℕ) → List ℕ → State → Plan
-freshLog z k b off bytes s = makeRoom s then (λ t. record { stores = logStores z (head (t .free)) 0 k (t .next) b off bytes; state = t })
+unfoldable pub freshLog : Sizes → (kind b off : ℕ) → List ℕ → Step
+freshLog z k b off bytes = makeRoom z then (λ t d. record { stores = logStores z (head (t .free)) 0 k (t .next) b off bytes; state = t })
 
 -- n bytes have room in a bucket, and the next epoch is one that spare bytes can say
 pub record Fresh (s : State) (n : ℕ) : Type 0 where

@@ -3,6 +3,7 @@ use meter::Meter;
 use model::Answer;
 use outcome::Outcome;
 use state::State;
+use steps::Turn;
 ghost use mathlib.Core.Path.{_≡_};
 ghost use mathlib.Core.List.{[]};
 ghost use Prim.Native.Nat.{_≤_};
@@ -14,6 +15,7 @@ ghost use Rattle.geometry.specs.Geometry.{device, Lent};
 ghost use Rattle.meter.specs.Run.{running, runAll};
 ghost use Rattle.state.specs.View.{viewOf};
 ghost use Rattle.gather.specs.Sources.{Sources};
+ghost use Rattle.steps.specs.Turns.{reached, after};
 ghost use Rattle.outcome.specs.Handed.{handedBack, handed};
 ghost use Rattle.drain.specs.Listed.{Drains, Listed};
 
@@ -50,7 +52,7 @@ fn write_listed(
     requires { ⌜ Lent (s .sizes) (now flash) (now spare) (now disk) ⌝ }
     requires { ⌜ Listed (viewOf s) (now spare) backs count ⌝ }
     requires { ⌜ length (now buffer) ≡ bucketSize (s .sizes) ⌝ }
-    ensures { λ r. ⌜ running (now (flash .exit)) (now (spare .exit)) (now (disk .exit)) r ≡ runAll (s .sizes) (drain (s .sizes) (device (now (flash .entry)) (now (spare .entry)) (now (disk .entry))) (viewOf s) .stores) (running (now (flash .entry)) (now (spare .entry)) (now (disk .entry)) meter) ⌝ }
+    ensures { λ r. ⌜ running (now (flash .exit)) (now (spare .exit)) (now (disk .exit)) r ≡ runAll (s .sizes) (drain (s .sizes) (viewOf s) (device (now (flash .entry)) (now (spare .entry)) (now (disk .entry))) .stores) (running (now (flash .entry)) (now (spare .entry)) (now (disk .entry)) meter) ⌝ }
     ensures { λ _. ⌜ Lent (s .sizes) (now (flash .exit)) (now (spare .exit)) (now (disk .exit)) ⌝ }
 {
     let end = s.sizes.b;
@@ -75,7 +77,7 @@ fn write_small(
     requires { ⌜ Lent (s .sizes) (now flash) (now spare) (now disk) ⌝ }
     requires { ⌜ Listed (viewOf s) (now spare) backs count ⌝ }
     requires { ⌜ bucketSize (s .sizes) ≤ 2048 ⌝ }
-    ensures { λ r. ⌜ running (now (flash .exit)) (now (spare .exit)) (now (disk .exit)) r ≡ runAll (s .sizes) (drain (s .sizes) (device (now (flash .entry)) (now (spare .entry)) (now (disk .entry))) (viewOf s) .stores) (running (now (flash .entry)) (now (spare .entry)) (now (disk .entry)) meter) ⌝ }
+    ensures { λ r. ⌜ running (now (flash .exit)) (now (spare .exit)) (now (disk .exit)) r ≡ runAll (s .sizes) (drain (s .sizes) (viewOf s) (device (now (flash .entry)) (now (spare .entry)) (now (disk .entry))) .stores) (running (now (flash .entry)) (now (spare .entry)) (now (disk .entry)) meter) ⌝ }
     ensures { λ _. ⌜ Lent (s .sizes) (now (flash .exit)) (now (spare .exit)) (now (disk .exit)) ⌝ }
 {
     let mut buffer = [0u8; 2048];
@@ -104,7 +106,7 @@ fn write_large(
 ) -> Meter
     requires { ⌜ Lent (s .sizes) (now flash) (now spare) (now disk) ⌝ }
     requires { ⌜ Listed (viewOf s) (now spare) backs count ⌝ }
-    ensures { λ r. ⌜ running (now (flash .exit)) (now (spare .exit)) (now (disk .exit)) r ≡ runAll (s .sizes) (drain (s .sizes) (device (now (flash .entry)) (now (spare .entry)) (now (disk .entry))) (viewOf s) .stores) (running (now (flash .entry)) (now (spare .entry)) (now (disk .entry)) meter) ⌝ }
+    ensures { λ r. ⌜ running (now (flash .exit)) (now (spare .exit)) (now (disk .exit)) r ≡ runAll (s .sizes) (drain (s .sizes) (viewOf s) (device (now (flash .entry)) (now (spare .entry)) (now (disk .entry))) .stores) (running (now (flash .entry)) (now (spare .entry)) (now (disk .entry)) meter) ⌝ }
     ensures { λ _. ⌜ Lent (s .sizes) (now (flash .exit)) (now (spare .exit)) (now (disk .exit)) ⌝ }
 {
     let mut buffer = [0u8; 65536];
@@ -134,7 +136,7 @@ fn write_units(
 ) -> Meter
     requires { ⌜ Lent (s .sizes) (now flash) (now spare) (now disk) ⌝ }
     requires { ⌜ Listed (viewOf s) (now spare) backs count ⌝ }
-    ensures { λ r. ⌜ running (now (flash .exit)) (now (spare .exit)) (now (disk .exit)) r ≡ runAll (s .sizes) (drain (s .sizes) (device (now (flash .entry)) (now (spare .entry)) (now (disk .entry))) (viewOf s) .stores) (running (now (flash .entry)) (now (spare .entry)) (now (disk .entry)) meter) ⌝ }
+    ensures { λ r. ⌜ running (now (flash .exit)) (now (spare .exit)) (now (disk .exit)) r ≡ runAll (s .sizes) (drain (s .sizes) (viewOf s) (device (now (flash .entry)) (now (spare .entry)) (now (disk .entry))) .stores) (running (now (flash .entry)) (now (spare .entry)) (now (disk .entry)) meter) ⌝ }
     ensures { λ _. ⌜ Lent (s .sizes) (now (flash .exit)) (now (spare .exit)) (now (disk .exit)) ⌝ }
 {
     let z = s.sizes;
@@ -146,8 +148,27 @@ fn write_units(
     }
 }
 
-// What to write is worked out before the first store.
-fn drain_queues(
+// All stores of the drain, and the state that it leaves. What to write is worked out before the first store.
+pub fn drain_queues(
+    meter: Meter,
+    s: State,
+    flash: &mut [u8],
+    spare: &mut [u8],
+    disk: &mut [u8],
+) -> Turn
+    requires { ⌜ Lent (s .sizes) (now flash) (now spare) (now disk) ⌝ }
+    requires { ⌜ Drains (viewOf s) (now spare) ⌝ }
+    ensures { λ r. ⌜ reached (now (flash .exit)) (now (spare .exit)) (now (disk .exit)) r ≡ after (s .sizes) (drain (s .sizes)) (viewOf s) (running (now (flash .entry)) (now (spare .entry)) (now (disk .entry)) meter) ⌝ }
+    ensures { λ _. ⌜ Lent (s .sizes) (now (flash .exit)) (now (spare .exit)) (now (disk .exit)) ⌝ }
+{
+    let work = unclean::drained(s, spare);
+    let backs = work.backs;
+    let state = work.state;
+    let left = write_units(meter, s, backs, work.count, flash, spare, disk);
+    Turn { meter: left, state }
+}
+
+fn drain_whole(
     s: State,
     allowance: usize,
     flash: &mut [u8],
@@ -156,16 +177,16 @@ fn drain_queues(
 ) -> Outcome
     requires { ⌜ Lent (s .sizes) (now flash) (now spare) (now disk) ⌝ }
     requires { ⌜ Drains (viewOf s) (now spare) ⌝ }
-    ensures { λ r. ⌜ handedBack (device (now (flash .exit)) (now (spare .exit)) (now (disk .exit))) [] r ≡ handed s (carryOut allowance drainCall (viewOf s) (device (now (flash .entry)) (now (spare .entry)) (now (disk .entry))) (drain (s .sizes) (device (now (flash .entry)) (now (spare .entry)) (now (disk .entry))) (viewOf s))) ⌝ }
+    ensures { λ r. ⌜ handedBack (device (now (flash .exit)) (now (spare .exit)) (now (disk .exit))) [] r ≡ handed s (carryOut allowance drainCall (viewOf s) (device (now (flash .entry)) (now (spare .entry)) (now (disk .entry))) (drain (s .sizes) (viewOf s) (device (now (flash .entry)) (now (spare .entry)) (now (disk .entry))))) ⌝ }
 {
-    let work = unclean::drained(s, spare);
     let whole = Meter {
         left: allowance,
         cut: false,
     };
-    let backs = work.backs;
-    let left = write_units(whole, s, backs, work.count, flash, spare, disk);
-    outcome::finish(left, allowance, Answer::Done, s, work.state)
+    let turn = drain_queues(whole, s, flash, spare, disk);
+    let left = turn.meter;
+    let state = turn.state;
+    outcome::finish(left, allowance, Answer::Done, s, state)
 }
 
 // The entry.
@@ -180,7 +201,7 @@ pub fn drain(
 {
     let number = checks::running_refusal(s, flash, spare, disk);
     if number == 0 {
-        drain_queues(s, allowance, flash, spare, disk)
+        drain_whole(s, allowance, flash, spare, disk)
     } else {
         outcome::refused(number, s)
     }

@@ -9,7 +9,7 @@ use lib.Dec.{ltb}
 use Rattle.model.specs.declared.Sizes.{Sizes}
 use Rattle.model.specs.Sizes.{limits, bucketSize, flashSize, spareSize, diskSize}
 use Rattle.model.specs.Driving.{tooLarge}
-use Rattle.geometry.proofs.Passed.{limits-hold}
+use Rattle.model.proofs.Limits.{limits-of}
 use Rattle.calls.specs.Arrays.{Held}
 
 neither : (s t : Bool) → s || t ≡ false → (s ≡ false) × (t ≡ false)
@@ -24,7 +24,7 @@ held-sizes z l e =
     let parts = mul-add (z .c * z .p) (z .s) 16 in
     let data-part = mul-assoc (z .c) (z .p) (z .s) in
     record {
-      limits = limits-hold z l;
+      limits = limits-of z l;
       flash-room = omega arith;
       spare-room = omega arith;
       disk-room = ltb-false 16384 (diskSize z) (both .1);

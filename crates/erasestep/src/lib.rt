@@ -4,18 +4,22 @@ use model::Answer;
 use outcome::Outcome;
 use state::State;
 ghost use mathlib.Core.Path.{_≡_};
-ghost use mathlib.Core.Bool.{true};
 ghost use mathlib.Core.List.{[]};
-ghost use Rattle.lists.specs.Lists.{all};
-ghost use Rattle.model.specs.State.{isBelow};
 ghost use Rattle.model.specs.Steps.{eraseStep};
-ghost use Rattle.model.specs.Calls.{eraseCall, carryOut, call};
+ghost use Rattle.model.specs.Calls.{eraseCall, doneAnswer, carryOut, call};
 ghost use Rattle.geometry.specs.Geometry.{device, Lent};
-ghost use Rattle.fifo.specs.View.{listOf};
-ghost use Rattle.state.specs.View.{viewOf, Bounded};
+ghost use Rattle.state.specs.View.{viewOf};
+ghost use Rattle.steps.specs.Ready.{Orderly};
 ghost use Rattle.outcome.specs.Handed.{handedBack, handed};
 
-// Erases the GC head, if there is one.
+// Idle where there is nothing to erase.
+fn full_answer(s: State) -> Answer
+    ensures { λ r. ⌜ r ≡ doneAnswer eraseCall (viewOf s) ⌝ }
+{
+    let n = s.gc.used();
+    if n == 0 { Answer::Idle } else { Answer::Done }
+}
+
 fn erase_head(
     s: State,
     allowance: usize,
@@ -24,21 +28,18 @@ fn erase_head(
     disk: &mut [u8],
 ) -> Outcome
     requires { ⌜ Lent (s .sizes) (now flash) (now spare) (now disk) ⌝ }
-    requires { ⌜ Bounded (viewOf s) × (all (isBelow (s .sizes .c)) (listOf (s .gc)) ≡ true) ⌝ }
-    ensures { λ r. ⌜ handedBack (device (now (flash .exit)) (now (spare .exit)) (now (disk .exit))) [] r ≡ handed s (carryOut allowance eraseCall (viewOf s) (device (now (flash .entry)) (now (spare .entry)) (now (disk .entry))) (eraseStep (viewOf s))) ⌝ }
+    requires { ⌜ Orderly (viewOf s) ⌝ }
+    ensures { λ r. ⌜ handedBack (device (now (flash .exit)) (now (spare .exit)) (now (disk .exit))) [] r ≡ handed s (carryOut allowance eraseCall (viewOf s) (device (now (flash .entry)) (now (spare .entry)) (now (disk .entry))) (eraseStep (s .sizes) (viewOf s) (device (now (flash .entry)) (now (spare .entry)) (now (disk .entry))))) ⌝ }
 {
+    let full = full_answer(s);
     let whole = Meter {
         left: allowance,
         cut: false,
     };
-    let n = s.gc.used();
-    if n == 0 {
-        return outcome::finish(whole, allowance, Answer::Idle, s, s);
-    }
-    let head = s.gc.head() as usize;
-    let after = meter::erase_bucket(whole, s.sizes, head, flash, spare, disk);
-    let room = s.erase_step();
-    outcome::finish(after, allowance, Answer::Done, s, room.state)
+    let turn = steps::erase_step(whole, s, flash, spare, disk);
+    let left = turn.meter;
+    let state = turn.state;
+    outcome::finish(left, allowance, full, s, state)
 }
 
 // The entry.

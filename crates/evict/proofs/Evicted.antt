@@ -11,7 +11,7 @@ use Rattle.model.specs.declared.Sizes.{Sizes}
 use Rattle.model.specs.declared.Entry.{Entry}
 use Rattle.model.specs.Sizes.{Device, bucketSize}
 use Rattle.model.specs.State.{State, moved, holds, cachesOf, without}
-use Rattle.model.specs.Steps.{_then_, move, nothing, makeRoom, taken, takeCopy, dropWrite, copy, merged, evict}
+use Rattle.model.specs.Steps.{_then_, move, nothing, makeRoom, taken, takeCopy, dropWrite, copy, merged, evict, fillCopy, writeOut}
 use Rattle.queue.proofs.Without.{without-length}
 use Rattle.meter.specs.Run.{Run, runAll}
 use Rattle.steps.specs.Turns.{Progress, after}
@@ -49,34 +49,34 @@ pub record Evicted (s t : State) : Type 0 where
   pub next : t .next ≤ s .next + 1
 
 module _ (s : State) (b : ℕ) (e : Evicts s b) where
-  copied-away : holds b (s .reads) ≡ true → Away s (takeCopy b (makeRoom s .state))
+  copied-away : (z : Sizes) (d : Device) → holds b (s .reads) ≡ true → Away s (takeCopy b (makeRoom z s d .state))
   unfolding takeCopy taken moved
-  copied-away h =
-      let r = roomed s (e .ready) in
-      let place : length (without b (makeRoom s .state .reads)) < 64 = rw (r .reads) (omega (arith, fewer b (s .reads) h, e .ready .orderly .bounded .reads)) in
-      let orderly = copied-orderly b (makeRoom s .state) (r .orderly) (r .some) place (omega (arith, r .next, e .epoch)) in
+  copied-away z d h =
+      let r = roomed s (e .ready) z d in
+      let place : length (without b (makeRoom z s d .state .reads)) < 64 = rw (r .reads) (omega (arith, fewer b (s .reads) h, e .ready .orderly .bounded .reads)) in
+      let orderly = copied-orderly b (makeRoom z s d .state) (r .orderly) (r .some) place (omega (arith, r .next, e .epoch)) in
       record { orderly = orderly; sizes = r .sizes; writes = r .writes; next = omega (arith, r .next) }
 
-  pub away : (z : Sizes) (bytes : List ℕ) → Away s (putAway z b bytes s .state)
-  unfolding putAway copy _then_
-  away z bytes = go (true-or-false (holds b (s .reads)))
+  pub away : (z : Sizes) (bytes : List ℕ) (d : Device) → Away s (putAway z b bytes s d .state)
+  unfolding putAway copy fillCopy writeOut _then_
+  away z bytes d = go (true-or-false (holds b (s .reads)))
     where
-      go : (holds b (s .reads) ≡ true) ⊎ (holds b (s .reads) ≡ false) → Away s (putAway z b bytes s .state)
-      go (inl h) = rw h (copied-away h)
+      go : (holds b (s .reads) ≡ true) ⊎ (holds b (s .reads) ≡ false) → Away s (putAway z b bytes s d .state)
+      go (inl h) = rw h (copied-away z d h)
       go (inr h) = rw h (record { orderly = e .ready .orderly; sizes = refl; writes = refl; next = omega arith })
 
   -- from the run that put the bytes away
-  module _ (z : Sizes) (bytes : List ℕ) (r : Run) {p : Progress} (q : p ≡ after z (putAway z b bytes s) r) where
+  module _ (z : Sizes) (bytes : List ℕ) (r : Run) {p : Progress} (q : p ≡ after z (putAway z b bytes) s r) where
     pub dropped-left : Orderly (dropWrite b (p .state))
     unfolding after
-    dropped-left = dropped-orderly b (p .state) (rw (ap (λ (x : Progress). x .state) q) (away z bytes .orderly))
+    dropped-left = dropped-orderly b (p .state) (rw (ap (λ (x : Progress). x .state) q) (away z bytes (r .device) .orderly))
 
-    pub evicted-by : (d : Device) → bytes ≡ merged z s d b → record { run = p .run; state = dropWrite b (p .state) } ≡ after z (evict z d b s) r
-    unfolding after evict putAway move nothing runAll
-    evicted-by d h =
+    pub evicted-by : s .sizes ≡ z → bytes ≡ merged z s (r .device) b → record { run = p .run; state = dropWrite b (p .state) } ≡ after z (evict z b) s r
+    unfolding after evict putAway move nothing runAll _then_
+    evicted-by sized h =
         ap (λ (x : Progress). record { run = x .run; state = dropWrite b (x .state) }) q
-        ∙ ap (λ (l : List ℕ). record { run = runAll z (putAway z b l s .stores) r; state = dropWrite b (putAway z b l s .state) }) h
-        ∙ sym (after-then z (putAway z b (merged z s d b) s) (move (dropWrite b)) r)
+        ∙ ap (λ (l : List ℕ). record { run = runAll z (putAway z b l s (r .device) .stores) r; state = dropWrite b (putAway z b l s (r .device) .state) }) h
+        ∙ sym (after-then z (putAway z b (merged z s (r .device) b)) (move (dropWrite b)) (λ t d e. refl) s r sized)
 
   dropped : {t : State} → Away s t → Evicted s (dropWrite b t)
   unfolding dropWrite moved
@@ -85,6 +85,6 @@ module _ (s : State) (b : ℕ) (e : Evicts s b) where
       let ready = dropped-ready b t (a .orderly) h in
       record { ready = ready; sizes = a .sizes; writes = omega (arith, fewer b (t .writes) h, ap length (a .writes)); next = a .next }
 
-  pub evicted : (z : Sizes) (d : Device) → Evicted s (evict z d b s .state)
+  pub evicted : (z : Sizes) (d : Device) → Evicted s (evict z b s d .state)
   unfolding evict putAway _then_ move nothing
-  evicted z d = dropped (away z (merged z s d b))
+  evicted z d = dropped (away z (merged z s d b) d)

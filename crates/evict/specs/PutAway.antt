@@ -6,9 +6,8 @@ use mathlib.Core.List.{List}
 use Rattle.lists.specs.Lists.{if_then_else_}
 use Rattle.model.specs.declared.Sizes.{Sizes}
 use Rattle.model.specs.Spare.{dirtyKind}
-use Rattle.model.specs.Stores.{unitStores}
 use Rattle.model.specs.State.{State, holds}
-use Rattle.model.specs.Steps.{Plan, copy}
+use Rattle.model.specs.Steps.{Step, copy, writeOut}
 use Rattle.steps.specs.Ready.{Ready}
 
 -- the back-end bucket b of the disk has a Write bucket, and the next epoch is one that spare bytes can say
@@ -19,5 +18,5 @@ pub record Evicts (s : State) (b : ℕ) : Type 0 where
   pub epoch : s .next ≤ 4294967295
 
 -- "With a read bucket: allocate, program all P pages as Dirty .. Without: write all P units in rising order"
-unfoldable pub putAway : Sizes → ℕ → List ℕ → State → Plan
-putAway z b bytes s = if holds b (s .reads) then copy z dirtyKind b bytes s else record { stores = unitStores z b bytes; state = s }
+unfoldable pub putAway : Sizes → ℕ → List ℕ → Step
+putAway z b bytes s d = (if holds b (s .reads) then copy z dirtyKind b bytes else writeOut z b bytes) s d

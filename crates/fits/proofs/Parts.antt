@@ -3,7 +3,7 @@ use mathlib.Core.Path.{_≡_}
 use mathlib.Core.Bool.{Bool, _&&_, and-assoc, and-true}
 use mathlib.Core.List.{[], _∷_}
 use Rattle.lists.specs.Lists.{every}
-use Rattle.model.specs.Sizes.{Device}
+use Rattle.model.specs.Sizes.{Device, body}
 use Rattle.model.specs.State.{State, queued, eachOnce, stateFits}
 use Rattle.fits.specs.Fits.{queuesFit, tagsAgree, numbersFit}
 
@@ -15,6 +15,6 @@ pub four : (a b c d : Bool) → a && b && c && d ≡ every (a ∷ b ∷ c ∷ d 
 unfolding every
 four a b c d = simp (and-assoc, and-true)
 
-pub parts : (s : State) (d : Device) → stateFits s d ≡ (eachOnce (s .sizes .c) (queued s) && (queuesFit s && tagsAgree s d && numbersFit s d))
+pub parts : (s : State) (d : Device) → stateFits s d ≡ (eachOnce (body (s .sizes)) (queued s) && (queuesFit s && tagsAgree s d && numbersFit s d))
 unfolding stateFits queuesFit tagsAgree numbersFit every
 parts s d = simp (and-assoc, and-true)

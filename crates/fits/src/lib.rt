@@ -6,6 +6,7 @@ ghost use mathlib.Core.Path.{_≡_};
 ghost use mathlib.Core.Bool.{true};
 ghost use Prim.Native.Nat.{_<_};
 ghost use Rattle.lists.specs.Lists.{all};
+ghost use Rattle.model.specs.Sizes.{body};
 ghost use Rattle.model.specs.Image.{wellFormed};
 ghost use Rattle.model.specs.State.{caches, queued, isBelow, readAgrees, writeAgrees, allBlank, topEpoch, stateFits};
 ghost use Rattle.image.specs.Chip.{Chip, spareOnly};
@@ -41,7 +42,7 @@ fn queues_fit(s: State) -> bool
 fn tags_agree(s: State, spare: &[u8]) -> bool
     requires { ⌜ Chip (s .sizes) (now spare) ⌝ }
     requires { ⌜ wellFormed (s .sizes) (spareOnly (now spare)) ≡ true ⌝ }
-    requires { ⌜ all (isBelow (s .sizes .c)) (queued (viewOf s)) ≡ true ⌝ }
+    requires { ⌜ all (isBelow (body (s .sizes))) (queued (viewOf s)) ≡ true ⌝ }
     ensures { λ r. ⌜ r ≡ tagsAgree (viewOf s) (spareOnly (now (spare .entry))) ⌝ }
 {
     let z = s.sizes;
@@ -64,9 +65,10 @@ pub fn top_epoch(z: Sizes, spare: &[u8]) -> u64
     requires { ⌜ Chip z (now spare) ⌝ }
     ensures { λ r. ⌜ r ≡ topEpoch z (spareOnly (now (spare .entry))) ⌝ }
 {
+    let end = geometry::body(z);
     let mut top = 0;
     let mut c = 0;
-    while c < z.c {
+    while c < end {
         let epoch = image::epoch_of(z, c, spare) as u64;
         c += 1;
         if top < epoch {
@@ -112,7 +114,7 @@ fn entry_agrees(e: Entry, written: bool, z: Sizes, spare: &[u8]) -> bool
 // All entries of the write queue, or of the read queue.
 fn queue_agrees(queue: queue::Queue, written: bool, z: Sizes, spare: &[u8]) -> bool
     requires { ⌜ Chip z (now spare) ⌝ }
-    requires { ⌜ all (isBelow (z .c)) (caches (entriesOf queue)) ≡ true ⌝ }
+    requires { ⌜ all (isBelow (body z)) (caches (entriesOf queue)) ≡ true ⌝ }
     ensures { λ r. ⌜ r ≡ all (agrees z (spareOnly (now (spare .entry))) written) (entriesOf queue) ⌝ }
 {
     let n = queue.used();
@@ -132,7 +134,7 @@ fn queue_agrees(queue: queue::Queue, written: bool, z: Sizes, spare: &[u8]) -> b
 fn all_blank(z: Sizes, c: usize, spare: &[u8]) -> bool
     requires { ⌜ Chip z (now spare) ⌝ }
     requires { ⌜ wellFormed z (spareOnly (now spare)) ≡ true ⌝ }
-    requires { ⌜ c < z .c ⌝ }
+    requires { ⌜ c < body z ⌝ }
     ensures { λ r. ⌜ r ≡ allBlank z (spareOnly (now (spare .entry))) c ⌝ }
 {
     !image::used(z, c, spare)
@@ -141,7 +143,7 @@ fn all_blank(z: Sizes, c: usize, spare: &[u8]) -> bool
 fn free_blank(free: fifo::Fifo, z: Sizes, spare: &[u8]) -> bool
     requires { ⌜ Chip z (now spare) ⌝ }
     requires { ⌜ wellFormed z (spareOnly (now spare)) ≡ true ⌝ }
-    requires { ⌜ all (isBelow (z .c)) (listOf free) ≡ true ⌝ }
+    requires { ⌜ all (isBelow (body z)) (listOf free) ≡ true ⌝ }
     ensures { λ r. ⌜ r ≡ all (allBlank z (spareOnly (now (spare .entry)))) (listOf free) ⌝ }
 {
     let n = free.used();

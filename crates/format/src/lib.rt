@@ -12,7 +12,8 @@ ghost use Rattle.lists.specs.Lists.{below};
 ghost use Rattle.model.specs.Stores.{erase};
 ghost use Rattle.model.specs.Operations.{format};
 ghost use Rattle.model.specs.Calls.{formatCall, carryOut, call};
-ghost use Rattle.geometry.specs.Geometry.{device, Limits, Lent};
+ghost use Rattle.model.proofs.Limits.{Limits};
+ghost use Rattle.geometry.specs.Geometry.{device, Lent};
 ghost use Rattle.meter.specs.Run.{running, runAll};
 ghost use Rattle.state.specs.View.{viewOf};
 ghost use Rattle.outcome.specs.Handed.{handedBack, handed};
@@ -43,7 +44,7 @@ fn formatted(z: Sizes) -> State
         reads: Queue::empty(),
         writes: Queue::empty(),
         gc: Fifo::empty(),
-        free: Fifo::rising(z.c),
+        free: Fifo::rising(geometry::body(z)),
         accepted: 0,
         next: 1,
     }

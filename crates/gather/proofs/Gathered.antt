@@ -1,4 +1,5 @@
 -- Where the bytes of a back-end bucket are; base and merged bytes are as many as a bucket has.
+use Rattle.model.proofs.Limits.{on-chip}
 use Prim.Native.Nat.{ℕ, _<_}
 use mathlib.Core.Path.{_≡_, sym, ap, _∙_}
 use mathlib.Core.Bool.{Bool, true, false}
@@ -8,7 +9,7 @@ use native.Mathlib.Omega.{arith}
 use lib.ListN.{length}
 use lib.Seq.{take-all}
 use Rattle.lists.specs.Lists.{if_then_else_, part}
-use Rattle.model.specs.Sizes.{bucketSize}
+use Rattle.model.specs.Sizes.{bucketSize, body}
 use Rattle.model.specs.Stores.{bucketBytes, diskBytes}
 use Rattle.model.specs.Image.{wellFormed, merge}
 use Rattle.model.specs.State.{State, holds, cacheOf}
@@ -22,10 +23,10 @@ use Rattle.merge.proofs.SameChip.{same-merge}
 use Rattle.image.specs.Chip.{spareOnly}
 use Rattle.steps.specs.Ready.{Orderly}
 use Rattle.steps.proofs.Inside.{cache-inside}
-use Rattle.steps.proofs.Kept.{chip-some}
+use Rattle.steps.proofs.Kept.{body-some}
 use Rattle.gather.specs.Sources.{Sources}
 
--- the cache buckets of an orderly state are on the chip
+-- the cache buckets of an orderly state are such as stand in queues
 pub sources-of : {s : State} {b : ℕ} {flash spare disk : List ℕ} → Orderly s → wellFormed (s .sizes) (spareOnly spare) ≡ true → b < s .sizes .b
     → Lent (s .sizes) flash spare disk → Sources s b flash spare disk
 sources-of {s} {b} o formed back lent = record {
@@ -33,8 +34,8 @@ sources-of {s} {b} o formed back lent = record {
   lent = lent;
   well-formed = formed;
   back = back;
-  read = cache-inside (s .sizes .c) b (s .reads) (o .reads) (chip-some o);
-  write = cache-inside (s .sizes .c) b (s .writes) (o .writes) (chip-some o);
+  read = cache-inside (body (s .sizes)) b (s .reads) (o .reads) (body-some o);
+  write = cache-inside (body (s .sizes)) b (s .writes) (o .writes) (body-some o);
 }
 
 module _ {s : State} {b : ℕ} {flash spare disk : List ℕ} (sources : Sources s b flash spare disk) where
@@ -56,7 +57,7 @@ module _ {s : State} {b : ℕ} {flash spare disk : List ℕ} (sources : Sources 
       at : (t : Bool)
           → length (if t then bucketBytes (s .sizes) (device flash spare disk) (cacheOf b (s .reads)) else diskBytes (s .sizes) (device flash spare disk) b)
           ≡ bucketSize (s .sizes)
-      at true = length-bucket (s .sizes) (device flash spare disk) lengths (cacheOf b (s .reads)) (sources .read)
+      at true = length-bucket (s .sizes) (device flash spare disk) lengths (cacheOf b (s .reads)) (on-chip (s .sizes) _ (sources .read))
       at false = length-disk (s .sizes) (device flash spare disk) lengths b (sources .back)
 
   pub merged-size : length (merged (s .sizes) s (device flash spare disk) b) ≡ bucketSize (s .sizes)

@@ -8,32 +8,14 @@ use borrow.Author.Tests.{leb-true, eqb-true}
 use Rattle.lists.proofs.Tests.{every-at, within-low, within-high}
 use Rattle.model.specs.declared.Sizes.{Sizes}
 use Rattle.model.specs.Sizes.{Device, limits, lengths, flashSize, spareSize, diskSize}
-use Rattle.model.specs.Calls.{firstFailed, lentTests}
+use Rattle.model.specs.Tests.{firstFailed}
+use Rattle.model.specs.Calls.{lentTests}
 use Rattle.model.proofs.Calling.{first-passed}
 use Rattle.model.proofs.Frames.{Lengths}
-use Rattle.geometry.specs.Geometry.{Limits, Lent}
+use Rattle.model.proofs.Limits.{Limits, limits-of}
+use Rattle.geometry.specs.Geometry.{Lent}
 
 module _ (z : Sizes) where
-  pub limits-hold : limits z ≡ true → Limits z
-  unfolding limits
-  limits-hold h =
-      let t = every-at _ h in
-      record {
-        s-low = within-low 4 1024 (z .s) (t 0);
-        s-high = within-high 4 1024 (z .s) (t 0);
-        p-low = within-low 1 64 (z .p) (t 1);
-        p-high = within-high 1 64 (z .p) (t 1);
-        c-low = within-low 3 256 (z .c) (t 2);
-        c-high = within-high 3 256 (z .c) (t 2);
-        b-low = within-low 1 65535 (z .b) (t 3);
-        b-high = within-high 1 65535 (z .b) (t 3);
-        r-low = within-low 1 64 (z .r) (t 4);
-        r-high = within-high 1 64 (z .r) (t 4);
-        w-low = within-low 1 64 (z .w) (t 5);
-        w-high = within-high 1 64 (z .w) (t 5);
-        room = leb-true (z .r + z .w + 1) (z .c) (t 6);
-      }
-
   pub lengths-hold : (d : Device) → lengths z d ≡ true → Lent z (d .flash) (d .spare) (d .disk)
   unfolding lengths
   lengths-hold d h =
@@ -50,7 +32,7 @@ module _ (z : Sizes) where
   lent-passed d h =
       let one = first-passed 0 _ _ h in
       let two = first-passed 1 _ _ (one .1) in
-      (limits-hold (one .0), lengths-hold d (two .0))
+      (limits-of z (one .0), lengths-hold d (two .0))
 
 -- products of sizes within the limits
 pub record Products (z : Sizes) : Type 0 where

@@ -5,9 +5,11 @@ ghost use mathlib.Core.List.{[], _∷_};
 ghost use Prim.Native.Nat.{_+_, _≤_};
 ghost use lib.Dec.{leb};
 ghost use Rattle.lists.specs.Lists.{every, within};
-ghost use Rattle.model.specs.Sizes.{limits, lengths, pagesFor};
-ghost use Rattle.model.specs.Calls.{firstFailed, lentTests};
-ghost use Rattle.geometry.specs.Geometry.{device, Limits};
+ghost use Rattle.model.specs.Sizes.{limits, body, lengths, pagesFor};
+ghost use Rattle.model.specs.Tests.{firstFailed};
+ghost use Rattle.model.specs.Calls.{lentTests};
+ghost use Rattle.model.proofs.Limits.{Limits};
+ghost use Rattle.geometry.specs.Geometry.{device};
 
 fn within(low: usize, high: usize, n: usize) -> bool
     ensures { λ r. ⌜ r ≡ within low high n ⌝ }
@@ -36,6 +38,13 @@ pub fn limits(z: Sizes) -> bool
 {
     within(4, 1024, z.s)
         & (within(1, 64, z.p) & (within(3, 256, z.c) & (within(1, 65535, z.b) & queues_within(z))))
+}
+
+// The cache buckets that stand in queues.
+pub fn body(z: Sizes) -> usize
+    ensures { λ r. ⌜ r ≡ body z ⌝ }
+{
+    z.c
 }
 
 // Number 2, once number 1 is passed: the limits keep the products within the machine's numbers.

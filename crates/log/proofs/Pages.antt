@@ -12,7 +12,7 @@ use Rattle.lists.proofs.Parts.{part-ff, length-ff}
 use Rattle.model.specs.declared.Sizes.{Sizes}
 use Rattle.model.specs.Sizes.{pagesFor}
 use Rattle.model.specs.Stores.{pageBytes}
-use Rattle.model.proofs.Bounds.{pages-hold, pages-least}
+use Rattle.model.proofs.Limits.{pages-hold, pages-least}
 use Rattle.geometry.proofs.Passed.{products}
 use Rattle.geometry.proofs.Places.{nth-inside}
 use Rattle.log.specs.Logs.{Fits}

@@ -5,7 +5,7 @@ use Rattle.model.specs.declared.Sizes.{Sizes}
 use Rattle.model.specs.Sizes.{pagesFor}
 use Rattle.model.specs.Stores.{Store}
 use Rattle.model.specs.Steps.{logStore, logStores}
-use Rattle.geometry.specs.Geometry.{Limits}
+use Rattle.model.proofs.Limits.{Limits}
 use Rattle.log.specs.declared.Log.{Log}
 
 module _ (z : Sizes) (log : Log) where

@@ -11,10 +11,11 @@ use Rattle.lists.proofs.Tests.{and-left, and-right}
 use Rattle.model.specs.declared.Sizes.{Sizes}
 use Rattle.model.specs.declared.Answer.the-variants.{Done, Refused}
 use Rattle.model.specs.Sizes.{flashSize}
-use Rattle.model.specs.State.{State}
-use Rattle.model.specs.Calls.{firstFailed, lookTests, lookAnswer, answerByte}
+use Rattle.model.specs.Tests.{firstFailed}
+use Rattle.model.specs.Calls.{lookTests, lookAnswer, answerByte}
 use Rattle.model.proofs.Calling.{first-passed}
-use Rattle.geometry.proofs.Passed.{products, limits-hold}
+use Rattle.model.proofs.Limits.{limits-of}
+use Rattle.geometry.proofs.Passed.{products}
 use Rattle.geometry.proofs.Places.{page-below, page-data}
 
 -- the page lies in the lent flash
@@ -31,7 +32,7 @@ looked z flash c k h =
     let bucket = ltb-true c (z .c) (and-left (ltb c (z .c)) (ltb k (z .p)) (six .0)) in
     let page = ltb-true k (z .p) (and-right (ltb c (z .c)) (ltb k (z .p)) (six .0)) in
     record {
-      index = omega (arith, page-below c k (z .c) (z .p) bucket page, products (limits-hold z (one .0)) .pages);
+      index = omega (arith, page-below c k (z .c) (z .p) bucket page, products (limits-of z (one .0)) .pages);
       inside = rw (eqb-true (length flash) (flashSize z) (two .0)) (page-data z c k bucket page);
     }
 
@@ -40,6 +41,6 @@ unfolding answerByte
 number zero = refl
 number (suc n) = rw (eqb·suc-zero n)
 
-pub answer-number : (s : State) (flash : List ℕ) (c k : ℕ) → answerByte (lookAnswer s flash c k) ≡ firstFailed (lookTests (s .sizes) flash c k)
+pub answer-number : (z : Sizes) (flash : List ℕ) (c k : ℕ) → answerByte (lookAnswer z flash c k) ≡ firstFailed (lookTests z flash c k)
 unfolding lookAnswer
-answer-number s flash c k = number (firstFailed (lookTests (s .sizes) flash c k))
+answer-number z flash c k = number (firstFailed (lookTests z flash c k))

@@ -1,8 +1,8 @@
 // The page look: a page's own bytes in the lent flash.
 use model::Sizes;
 ghost use mathlib.Core.Path.{_≡_};
-ghost use Rattle.model.specs.Calls.{firstFailed, lookTests, lookAnswer, lookBytes, answerByte};
-ghost use Rattle.look.specs.Look.{sized};
+ghost use Rattle.model.specs.Tests.{firstFailed};
+ghost use Rattle.model.specs.Calls.{lookTests, lookAnswer, lookBytes, answerByte};
 
 // The number of the first test that fails, or 0.
 fn refusal(z: Sizes, flash: &[u8], bucket: usize, page: usize) -> u8
@@ -21,8 +21,8 @@ fn refusal(z: Sizes, flash: &[u8], bucket: usize, page: usize) -> u8
 
 // The page's S bytes, or none; the answer beside them is 0 or the number of the refusal.
 pub fn look<'a>(z: Sizes, flash: &'a [u8], bucket: usize, page: usize, answer: &mut u8) -> &'a [u8]
-    ensures { λ _. ⌜ now (answer .exit) ≡ answerByte (lookAnswer (sized z) (now (flash .entry)) bucket page) ⌝ }
-    ensures { λ r. ⌜ now r ≡ lookBytes (sized z) (now (flash .entry)) bucket page ⌝ }
+    ensures { λ _. ⌜ now (answer .exit) ≡ answerByte (lookAnswer z (now (flash .entry)) bucket page) ⌝ }
+    ensures { λ r. ⌜ now r ≡ lookBytes z (now (flash .entry)) bucket page ⌝ }
 {
     let number = refusal(z, flash, bucket, page);
     *answer = number;

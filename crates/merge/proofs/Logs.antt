@@ -1,4 +1,5 @@
 -- The complete logs of a well-formed chip lie within it, and each is laid by its own page.
+use Rattle.model.proofs.Limits.{on-chip}
 use mathlib.Core.Path.{_≡_, sym, ap, _∙_}
 use mathlib.Core.Bool.{true, false}
 use mathlib.Core.List.{List}
@@ -13,7 +14,7 @@ use borrow.Author.Tests.{eq-eqb, ne-eqb}
 use Rattle.lists.specs.Lists.{part, splice}
 use Rattle.lists.proofs.Windows.{part-part}
 use Rattle.model.specs.declared.Sizes.{Sizes}
-use Rattle.model.specs.Sizes.{bucketSize, flashSize, spareSize, diskSize}
+use Rattle.model.specs.Sizes.{bucketSize, body, flashSize, spareSize, diskSize}
 use Rattle.model.specs.Spare.{blank, ordinal, pages, offset, extent}
 use Rattle.model.specs.Stores.{tagOf, bucketBytes}
 use Rattle.model.specs.Image.{pageFits, endsLog, logBytes, mergeTo, merge}
@@ -34,7 +35,7 @@ pub in-flash : (z : Sizes) (flash : List ℕ) (c a : ℕ) → length flash ≡ f
 unfolding flashSize
 in-flash z flash c a e h g = let q : suc c * bucketSize z ≤ z .c * bucketSize z = mul-le-mul-right (bucketSize z) h in omega arith
 
-module _ {z : Sizes} {flash spare : List ℕ} (readable : Readable z flash spare) {c : ℕ} (bucket : c < z .c) where
+module _ {z : Sizes} {flash spare : List ℕ} (readable : Readable z flash spare) {c : ℕ} (bucket : c < body z) where
   formed : (disk : List ℕ) → Formed z (device flash spare disk)
   formed disk = formed-of z (device flash spare disk) (sym (same-well-formed z (device flash spare disk)) ∙ readable .well-formed)
 
@@ -99,7 +100,7 @@ module _ {z : Sizes} {flash spare : List ℕ} (readable : Readable z flash spare
       log-bytes : logBytes z (chip flash spare) c k ≡ logPart z c k f flash
       unfolding logBytes bucketBytes logPart
       log-bytes =
-          part-part flash (c * bucketSize z) (bucketSize z) _ _ stored (in-flash z flash c (bucketSize z) (readable .flash-length) bucket (le-refl (bucketSize z)))
+          part-part flash (c * bucketSize z) (bucketSize z) _ _ stored (in-flash z flash c (bucketSize z) (readable .flash-length) (on-chip z c bucket) (le-refl (bucketSize z)))
           ∙ rw (pages-said, extent-said)
 
       pub log-laid : (base : List ℕ)

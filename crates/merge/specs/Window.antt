@@ -8,7 +8,8 @@ use Rattle.lists.specs.Lists.{part}
 use Rattle.model.specs.declared.Sizes.{Sizes}
 use Rattle.model.specs.Sizes.{Device, bucketSize, flashSize, spareSize}
 use Rattle.model.specs.Image.{wellFormed}
-use Rattle.geometry.specs.Geometry.{Limits, device}
+use Rattle.model.proofs.Limits.{Limits}
+use Rattle.geometry.specs.Geometry.{device}
 use Rattle.spare.specs.declared.Fields.{Fields}
 use Rattle.image.specs.Chip.{spareOnly}
 

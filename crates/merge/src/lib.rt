@@ -9,9 +9,9 @@ ghost use mathlib.Core.List.{List};
 ghost use Prim.Native.Nat.{ℕ, _+_, _≤_, _<_, max, min};
 ghost use lib.ListN.{length};
 ghost use Rattle.lists.specs.Lists.{splice};
-ghost use Rattle.model.specs.Sizes.{bucketSize, flashSize};
+ghost use Rattle.model.specs.Sizes.{bucketSize, flashSize, body};
 ghost use Rattle.model.specs.Image.{mergeTo, merge};
-ghost use Rattle.geometry.specs.Geometry.{Limits};
+ghost use Rattle.model.proofs.Limits.{Limits};
 ghost use Rattle.merge.specs.Window.{Turns, Readable, chip, LogPlace, logPart};
 
 fn larger(a: usize, b: usize) -> usize
@@ -69,7 +69,7 @@ fn lay_page(
     window: &mut [u8],
 )
     requires { ⌜ Readable z (now flash) (now spare) ⌝ }
-    requires { ⌜ c < z .c ⌝ }
+    requires { ⌜ c < body z ⌝ }
     requires { ⌜ k < z .p ⌝ }
     requires { ⌜ from + length (now window) ≤ bucketSize z ⌝ }
     ensures { λ _. ⌜ ((base : List ℕ) → length base ≡ bucketSize z → Turns from (mergeTo z (chip (now (flash .entry)) (now (spare .entry))) c base k) (mergeTo z (chip (now (flash .entry)) (now (spare .entry))) c base (k + 1)) (now (window .entry)) (now (window .exit))) ⌝ }
@@ -87,7 +87,7 @@ fn lay_page(
 // The window shows a base from an index on, and then the base with the bucket's complete logs laid over it.
 pub fn merge_range(z: Sizes, c: usize, from: usize, flash: &[u8], spare: &[u8], window: &mut [u8])
     requires { ⌜ Readable z (now flash) (now spare) ⌝ }
-    requires { ⌜ c < z .c ⌝ }
+    requires { ⌜ c < body z ⌝ }
     requires { ⌜ from + length (now window) ≤ bucketSize z ⌝ }
     ensures { λ _. ⌜ ((base : List ℕ) → length base ≡ bucketSize z → Turns from base (merge z (chip (now (flash .entry)) (now (spare .entry))) c base) (now (window .entry)) (now (window .exit))) ⌝ }
 {
@@ -101,7 +101,7 @@ pub fn merge_range(z: Sizes, c: usize, from: usize, flash: &[u8], spare: &[u8], 
 // The bucket's complete logs, laid over the whole base.
 pub fn merge_into(z: Sizes, c: usize, flash: &[u8], spare: &[u8], base: &mut [u8])
     requires { ⌜ Readable z (now flash) (now spare) ⌝ }
-    requires { ⌜ c < z .c ⌝ }
+    requires { ⌜ c < body z ⌝ }
     requires { ⌜ length (now base) ≡ bucketSize z ⌝ }
     ensures { λ _. ⌜ now (base .exit) ≡ merge z (chip (now (flash .entry)) (now (spare .entry))) c (now (base .entry)) ⌝ }
 {

@@ -2,12 +2,13 @@
 use Prim.Native.Nat.{ℕ, zero, suc, _+_, _-_, _<_, _≤_}
 use mathlib.Core.Path.{_≡_, refl, ap, _∙_}
 use mathlib.Core.Bool.{Bool, true, false}
+use mathlib.Core.Logic.{_⊎_, inl, inr}
 use mathlib.Core.List.{List, [], _∷_, _++_}
 use native.Mathlib.Nat.{zero-sub, suc-sub-suc, sub-zero}
 use native.Mathlib.Numerals.{add-one, sub-one}
 use native.Mathlib.Omega.{arith}
 use lib.ListN.{length, take}
-use lib.Dec.{ltb, leb·suc-suc, leb·suc-zero, leb·zero, eqb·suc-zero}
+use lib.Dec.{ltb, eqb, leb·suc-suc, leb·suc-zero, leb·zero, eqb·suc-zero}
 use lib.Seq.{take-nil, take-all}
 use borrow.Author.Tests.{ltb-true, ltb-false}
 use Rattle.lists.specs.Lists.{row}
@@ -35,6 +36,20 @@ module _ (z : Sizes) where
   unfolding runAll step
   run-cut [] d = refl
   run-cut (s ∷ ss) d = run-cut ss d
+
+  -- all stores of a plan are made, or the run is cut and no further store changes it
+  pub run-settled : (ss : List Store) (r : Run)
+      → (runAll z ss r .device ≡ applyAll z (r .device) ss) ⊎ ((ts : List Store) → runAll z ts (runAll z ss r) ≡ runAll z ss r)
+  unfolding runAll step applyAll
+  run-settled [] r = inl refl
+  run-settled (s ∷ ss) r = go (eqb (r .meter .left) 0) refl (run-settled ss (step z s r))
+    where
+      go : (t : Bool) → eqb (r .meter .left) 0 ≡ t
+          → (runAll z ss (step z s r) .device ≡ applyAll z (step z s r .device) ss) ⊎ ((ts : List Store) → runAll z ts (runAll z ss (step z s r)) ≡ runAll z ss (step z s r))
+          → (runAll z ss (step z s r) .device ≡ applyAll z (apply z (r .device) s) ss) ⊎ ((ts : List Store) → runAll z ts (runAll z ss (step z s r)) ≡ runAll z ss (step z s r))
+      go true e h = inr (λ ts. rw (e, run-cut ss (r .device)) (run-cut ts (r .device)))
+      go false e (inl h) = inl (h ∙ ap (λ (x : Device). applyAll z x ss) (rw e))
+      go false e (inr h) = inr h
 
   -- Exactly the first n stores of a plan are made, in order, and the run is cut if and only if the plan has more.
   pub run-first : (ss : List Store) (d : Device) (n : ℕ)

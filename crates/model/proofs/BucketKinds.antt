@@ -6,11 +6,11 @@ use lib.Dec.{eqb}
 use borrow.Author.Tests.{not-true}
 use Rattle.lists.proofs.Tests.{and-left, and-right, and-false}
 use Rattle.model.specs.declared.Sizes.{Sizes}
-use Rattle.model.specs.Sizes.{Device}
-use Rattle.model.specs.Stores.{tagOf}
+use Rattle.model.specs.Sizes.{Device, body}
 use Rattle.model.specs.Spare.{writeKind, kind}
-use Rattle.model.specs.Image.{used, backOf, isWrite, isCopy, complete}
+use Rattle.model.specs.Image.{used, backOf, isWrite, isCopy, complete, headTag}
 use Rattle.model.proofs.Formed.{Formed, page-fields}
+use Rattle.model.proofs.Heads.{head-page}
 
 module _ (z : Sizes) (d : Device) where
   pub complete-copy : (c : ℕ) → complete z d c ≡ true → isCopy z d c ≡ true
@@ -23,13 +23,15 @@ module _ (z : Sizes) (d : Device) where
 
   pub copy-no-write : (c : ℕ) → isCopy z d c ≡ true → isWrite z d c ≡ false
   unfolding isCopy isWrite
-  copy-no-write c h = rw (not-true (eqb (kind (tagOf z d c 0)) writeKind) (and-right (used z d c) _ h)) (and-false (used z d c))
+  copy-no-write c h = rw (not-true (eqb (kind (headTag z d c)) writeKind) (and-right (used z d c) _ h)) (and-false (used z d c))
 
   pub write-used : (c : ℕ) → isWrite z d c ≡ true → used z d c ≡ true
   unfolding isWrite
   write-used c h = and-left (used z d c) _ h
 
   -- a bucket with a page is of a back-end bucket that the disk has
-  pub back-below : Formed z d → 1 ≤ z .p → (c : ℕ) → c < z .c → used z d c ≡ true → backOf z d c < z .b
-  unfolding used backOf
-  back-below f p-pos c hc h = page-fields z d c (λ k hk. f .pages-fit c k hc hk) 0 p-pos (not-true _ h) .back-below
+  pub back-below : Formed z d → 1 ≤ z .p → (c : ℕ) → c < body z → used z d c ≡ true → backOf z d c < z .b
+  unfolding backOf
+  back-below f p-pos c hc h =
+      let p = head-page z p-pos d c h in
+      rw (p .is) (page-fields z d c (λ k hk. f .pages-fit c k hc hk) (p .page) (p .inside) (p .programmed) .back-below)

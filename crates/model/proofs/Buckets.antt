@@ -10,20 +10,20 @@ use Rattle.lists.specs.Lists.{if_then_else_, ff}
 use Rattle.lists.proofs.Tests.{and-left, and-right, and-false}
 use Rattle.lists.proofs.Rows.{count-le}
 use Rattle.model.specs.declared.Sizes.{Sizes}
-use Rattle.model.specs.Sizes.{Device}
-use Rattle.model.specs.Stores.{tagOf}
+use Rattle.model.specs.Sizes.{Device, body}
 use Rattle.model.specs.Spare.{writeKind, kind}
-use Rattle.model.specs.Image.{used, epochOf, backOf, isWrite, isCopy, complete, pageBlank, blanks}
+use Rattle.model.specs.Image.{used, epochOf, backOf, isWrite, isCopy, complete, pageBlank, blanks, headTag}
 use Rattle.model.proofs.Views.{none≢some}
 use Rattle.model.proofs.Safe.{found, givesOf, holdsOf}
 use Rattle.model.proofs.Tags.{blank-ff}
+use Rattle.model.proofs.Heads.{Blank, head-blank}
 
 module _ (z : Sizes) (d : Device) (c : ℕ) where
   -- ---- what is no Write bucket gives nothing, what is not complete is no copy
 
   pub gives-none : isWrite z d c ≡ false → (b i : ℕ) → givesOf z d c b i ≡ none
   unfolding givesOf
-  gives-none e b i = rw e (go (ltb c (z .c)))
+  gives-none e b i = rw e (go (ltb c (body z)))
     where
       go : (t : Bool) → (if t && (false && eqb (backOf z d c) b) then found z d c (z .p) i else none) ≡ none
       go true = refl
@@ -31,23 +31,23 @@ module _ (z : Sizes) (d : Device) (c : ℕ) where
 
   pub holds-none : complete z d c ≡ false → (b : ℕ) → holdsOf z d c b ≡ false
   unfolding holdsOf
-  holds-none e b = rw e (and-false (ltb c (z .c)))
+  holds-none e b = rw e (and-false (ltb c (body z)))
 
   pub blanks-most : blanks z d c ≤ z .p
   unfolding blanks
   blanks-most = count-le (z .p) (pageBlank z d c)
 
   -- nothing from beyond the chip
-  pub gives-beyond : z .c ≤ c → (b i : ℕ) → givesOf z d c b i ≡ none
+  pub gives-beyond : body z ≤ c → (b i : ℕ) → givesOf z d c b i ≡ none
   unfolding givesOf
-  gives-beyond h b i = rw (le-ltb c (z .c) h)
+  gives-beyond h b i = rw (le-ltb c (body z) h)
 
-  -- ---- a first page that is blank
+  -- ---- a bucket of blank pages
 
-  module _ (e : tagOf z d c 0 ≡ ff 16) where
+  module _ (p-pos : 1 ≤ z .p) (none-programmed : Blank z d c) where
     pub blank-unused : used z d c ≡ false
     unfolding used
-    blank-unused = rw (e, blank-ff)
+    blank-unused = rw (head-blank z p-pos d c none-programmed, blank-ff)
 
     pub blank-epoch : epochOf z d c ≡ 0
     unfolding epochOf
@@ -69,20 +69,20 @@ module _ (z : Sizes) (d : Device) (c : ℕ) where
 
   -- ---- a Write bucket
 
-  pub gives-write : (b i x : ℕ) → givesOf z d c b i ≡ some x → (c < z .c) × (isWrite z d c ≡ true) × (backOf z d c ≡ b) × (found z d c (z .p) i ≡ some x)
+  pub gives-write : (b i x : ℕ) → givesOf z d c b i ≡ some x → (c < body z) × (isWrite z d c ≡ true) × (backOf z d c ≡ b) × (found z d c (z .p) i ≡ some x)
   unfolding givesOf
-  gives-write b i x e = go (ltb c (z .c)) (isWrite z d c) (eqb (backOf z d c) b) refl refl refl e
+  gives-write b i x e = go (ltb c (body z)) (isWrite z d c) (eqb (backOf z d c) b) refl refl refl e
     where
-      go : (p q r : Bool) → ltb c (z .c) ≡ p → isWrite z d c ≡ q → eqb (backOf z d c) b ≡ r → (if p && (q && r) then found z d c (z .p) i else none) ≡ some x
-          → (c < z .c) × (isWrite z d c ≡ true) × (backOf z d c ≡ b) × (found z d c (z .p) i ≡ some x)
-      go true true true hp hq hr h = (ltb-true c (z .c) hp, hq, eqb-true _ _ hr, h)
+      go : (p q r : Bool) → ltb c (body z) ≡ p → isWrite z d c ≡ q → eqb (backOf z d c) b ≡ r → (if p && (q && r) then found z d c (z .p) i else none) ≡ some x
+          → (c < body z) × (isWrite z d c ≡ true) × (backOf z d c ≡ b) × (found z d c (z .p) i ≡ some x)
+      go true true true hp hq hr h = (ltb-true c (body z) hp, hq, eqb-true _ _ hr, h)
       go true true false hp hq hr h = absurd (none≢some h)
       go true false r hp hq hr h = absurd (none≢some h)
       go false q r hp hq hr h = absurd (none≢some h)
 
-  pub gives-found : (b i : ℕ) → c < z .c → isWrite z d c ≡ true → backOf z d c ≡ b → givesOf z d c b i ≡ found z d c (z .p) i
+  pub gives-found : (b i : ℕ) → c < body z → isWrite z d c ≡ true → backOf z d c ≡ b → givesOf z d c b i ≡ found z d c (z .p) i
   unfolding givesOf
-  gives-found b i h w e = rw (lt-ltb c (z .c) h, w, eq-eqb (backOf z d c) b e)
+  gives-found b i h w e = rw (lt-ltb c (body z) h, w, eq-eqb (backOf z d c) b e)
 
   -- nothing for another back-end bucket
   pub gives-other : (b i : ℕ) → backOf z d c ≢ b → givesOf z d c b i ≡ none
@@ -94,28 +94,28 @@ module _ (z : Sizes) (d : Device) (c : ℕ) where
 
   -- ---- a complete copy
 
-  pub holds-parts : (b : ℕ) → holdsOf z d c b ≡ true → (c < z .c) × (complete z d c ≡ true) × (backOf z d c ≡ b)
+  pub holds-parts : (b : ℕ) → holdsOf z d c b ≡ true → (c < body z) × (complete z d c ≡ true) × (backOf z d c ≡ b)
   unfolding holdsOf
   holds-parts b h =
-      let r = and-right (ltb c (z .c)) (complete z d c && eqb (backOf z d c) b) h in (
-        ltb-true c (z .c) (and-left (ltb c (z .c)) (complete z d c && eqb (backOf z d c) b) h),
+      let r = and-right (ltb c (body z)) (complete z d c && eqb (backOf z d c) b) h in (
+        ltb-true c (body z) (and-left (ltb c (body z)) (complete z d c && eqb (backOf z d c) b) h),
         and-left (complete z d c) (eqb (backOf z d c) b) r,
         eqb-true _ _ (and-right (complete z d c) (eqb (backOf z d c) b) r),
       )
 
-  pub holds-from : (b : ℕ) → c < z .c → complete z d c ≡ true → backOf z d c ≡ b → holdsOf z d c b ≡ true
+  pub holds-from : (b : ℕ) → c < body z → complete z d c ≡ true → backOf z d c ≡ b → holdsOf z d c b ≡ true
   unfolding holdsOf
-  holds-from b h q e = rw (lt-ltb c (z .c) h, q, eq-eqb (backOf z d c) b e)
+  holds-from b h q e = rw (lt-ltb c (body z) h, q, eq-eqb (backOf z d c) b e)
 
   pub holds-other : (b : ℕ) → backOf z d c ≢ b → holdsOf z d c b ≡ false
   unfolding holdsOf
-  holds-other b ne = rw (ne-eqb (backOf z d c) b ne, and-false (complete z d c)) (and-false (ltb c (z .c)))
+  holds-other b ne = rw (ne-eqb (backOf z d c) b ne, and-false (complete z d c)) (and-false (ltb c (body z)))
 
   -- a copy is no Write bucket
   pub copy-or-write : isWrite z d c ≡ true → complete z d c ≡ false
   unfolding complete isCopy isWrite
   copy-or-write h =
-      let k : eqb (kind (tagOf z d c 0)) writeKind ≡ true = and-right (used z d c) (eqb (kind (tagOf z d c 0)) writeKind) h in
+      let k : eqb (kind (headTag z d c)) writeKind ≡ true = and-right (used z d c) (eqb (kind (headTag z d c)) writeKind) h in
       rw (k, and-false (used z d c))
 
   pub copy-silent : complete z d c ≡ true → (b i : ℕ) → givesOf z d c b i ≡ none

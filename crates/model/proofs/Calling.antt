@@ -1,6 +1,6 @@
 -- A call that is not refused: what its tests give, what it owes for a plan that keeps the plain disk, and the erase step.
 use Prim.Native.Nat.{ℕ, suc, _+_, _≤_, _<_}
-use mathlib.Core.Path.{_≡_, refl, subst}
+use mathlib.Core.Path.{_≡_, refl, subst, sym}
 use mathlib.Core.Bool.{Bool, true, false}
 use mathlib.Core.List.{List, [], _∷_, _++_, append-nil}
 use native.Mathlib.Omega.{arith}
@@ -10,13 +10,16 @@ use borrow.Author.Tests.{ltb-true, leb-true}
 use Rattle.lists.specs.Lists.{part}
 use Rattle.lists.proofs.Tests.{and-left, and-right}
 use Rattle.model.specs.declared.Sizes.{Sizes}
-use Rattle.model.specs.declared.Answer.the-variants.{Done}
+use Rattle.model.specs.declared.Answer.{Answer}
+use Rattle.model.specs.declared.Answer.the-variants.{Done, Cut}
+use Rattle.model.specs.Tests.{Test, firstFailed}
 use Rattle.model.specs.Sizes.{Device, limits, lengths, bucketSize}
 use Rattle.model.specs.Image.{wellFormed}
 use Rattle.model.specs.State.{State, stateFits}
-use Rattle.model.specs.Calls.{Call, readCall, eraseCall, Test, firstFailed, lentTests, runningTests, rangeFits, placeTests, tests, refusal, planOf, readBuffer}
+use Rattle.model.specs.Steps.{eraseStep}
+use Rattle.model.specs.Calls.{Call, formatCall, readCall, writeCall, eraseCall, drainCall, recoverCall, isDone, lentTests, runningTests, rangeFits, placeTests, tests, refusal, planOf, readBuffer}
 use Rattle.model.specs.Promise.{feed, diskPlace}
-use Rattle.model.proofs.Bounds.{bounds-of}
+use Rattle.model.proofs.Limits.{limits-of}
 use Rattle.model.proofs.Safe.{Sound, Inv, Owed, Pays}
 use Rattle.model.proofs.Prefix.{along-take}
 use Rattle.model.proofs.InsideLive.{inside, outside}
@@ -70,12 +73,24 @@ place-passed z b off n ts h =
       seven .1,
     )
 
+-- ---- the plain disk by answers
+
+pub feed-not : (z : Sizes) (k : Call) (a : Answer) (plain : List ℕ) → isDone a ≡ false → feed z k a plain ≡ plain
+unfolding feed
+feed-not z (formatCall y) a plain e = refl
+feed-not z (readCall b off buffer) a plain e = refl
+feed-not z (writeCall b off bytes) a plain e = rw e
+feed-not z eraseCall a plain e = refl
+feed-not z drainCall a plain e = refl
+feed-not z (recoverCall y) a plain e = refl
+
 -- ---- what is owed
 
 -- a plan that keeps the plain disk
 pub pays-good : (z : Sizes) (k : Call) (s : State) (d : Device) (plain : List ℕ) → feed z k Done plain ≡ plain → Good z plain (planOf k s d) d → Owed z k s d plain
+unfolding isDone
 pays-good z k s d plain e g = record {
-  cuts = λ n h. along-take z (Sound z plain) d (planOf k s d .stores) (g .0) n;
+  cuts = λ n h. rw (feed-not z k Cut plain refl) (along-take z (Sound z plain) d (planOf k s d .stores) (g .0) n);
   whole = rw e (outside z (planOf k s d .state) _ plain (g .1));
 }
 
@@ -84,7 +99,7 @@ unfolding refusal tests planOf feed
 erase-pays z s d plain fits i r =
     let run = running-passed s d [] (rw (append-nil (runningTests s d)) r) in
     let j = inside z s d plain i (run .0) in
-    pays-good z eraseCall s d plain refl (erase-good z (bounds-of z fits .p-low) plain s d j)
+    pays-good z eraseCall s d plain refl (subst (λ (y : Sizes). Good z plain (eraseStep y s d) d) (sym (i .sizes-are)) (erase-good z (limits-of z fits .p-low) plain s d j))
 
 -- ---- what a read gives
 
@@ -103,5 +118,5 @@ read-gives z fits b off buffer s d plain i r =
     own : limits (s .sizes) ≡ true → Inv (s .sizes) s d plain → readBuffer (readCall b off buffer) s d ≡ part plain (diskPlace (s .sizes) b off) (length buffer)
     own f i' =
         let pass = read-passed s d b off buffer r in
-        let bounds = bounds-of (s .sizes) f in
+        let bounds = limits-of (s .sizes) f in
         read-plain (s .sizes) (bounds .p-low) (omega (arith, bounds .s-low)) plain s d (inside (s .sizes) s d plain i' (pass .0 .runs)) b (pass .1 .b-in) off (length buffer) (pass .1 .range-in)

@@ -10,16 +10,17 @@ use Rattle.lists.specs.Lists.{if_then_else_, all, empty}
 use Rattle.lists.proofs.Tests.{and-left, and-right}
 use Rattle.model.specs.declared.Sizes.{Sizes}
 use Rattle.model.specs.declared.Answer.the-variants.{Done, Idle, Refused}
+use Rattle.model.specs.Tests.{Test, firstFailed}
 use Rattle.model.specs.Sizes.{Device, limits, lengths}
 use Rattle.model.specs.Stores.{applyAll}
 use Rattle.model.specs.Image.{wellFormed}
 use Rattle.model.specs.State.{State}
-use Rattle.model.specs.Calls.{Call, formatCall, readCall, writeCall, eraseCall, drainCall, recoverCall, Test, firstFailed, lentTests, runningTests, placeTests, tests, refusal, isDone, sizesOf, planOf, doneAnswer, turnedDown, call}
-use Rattle.model.specs.Promise.{Lent, whole, other, MayStand, lentOf}
+use Rattle.model.specs.Calls.{Call, formatCall, readCall, writeCall, eraseCall, drainCall, recoverCall, lentTests, runningTests, placeTests, tests, refusal, isDone, sizesOf, planOf, doneAnswer, turnedDown, call}
+use Rattle.model.specs.Promise.{whole, other, MayStand, lentOf}
 use Rattle.model.specs.Companions.{isDistrust, Trusted, Drained}
 use Rattle.model.proofs.Safe.{Inv}
 use Rattle.model.proofs.Outcomes.{Ends, refused, cut, done, ends}
-use Rattle.model.proofs.Induction.{recover-taken}
+use Rattle.model.proofs.Induction.{Each, recover-taken}
 
 -- ---- the chip and the state are trusted
 
@@ -91,10 +92,10 @@ module _ (z : Sizes) (fits-limits : limits z ≡ true) where
   done-trusted drainCall s = refl
   done-trusted (recoverCall y) s = refl
 
-  pub trusted : (n : ℕ) (k : Call) → MayStand z k → (s : State) (d : Device) (plain : List ℕ) → Inv z s d plain → (l : Lent) → Trusted plain k l (call n k s (lentOf l d))
+  pub trusted : Each z Trusted
   unfolding Trusted lentOf turnedDown isDistrust
-  trusted n k m s d plain i (other part) = tt
-  trusted n k m s d plain i whole = go (ends n k s d)
+  trusted n k m s d plain i (other part) lent = tt
+  trusted n k m s d plain i whole lent = go (ends n k s d)
     where
       go : Ends n k s d → isDistrust (call n k s d .answer) ≡ false
       go (refused r e) = rw e (refusal-trusted k s d plain m i)
@@ -114,12 +115,12 @@ module _ (z : Sizes)
       go (cut r k e) = rw e (λ h. absurd (true≢false (sym h)))
       go (done r e) = rw e (λ h. subst (λ (y : Sizes). applyAll y d (planOf drainCall s d .stores) .disk ≡ plain) (sym (i .sizes-are)) (drains s d plain i r))
 
-  pub drained : (n : ℕ) (k : Call) → MayStand z k → (s : State) (d : Device) (plain : List ℕ) → Inv z s d plain → (l : Lent) → Drained plain k l (call n k s (lentOf l d))
+  pub drained : Each z Drained
   unfolding Drained lentOf
-  drained n (formatCall y) m s d plain i l = tt
-  drained n (readCall b off buffer) m s d plain i l = tt
-  drained n (writeCall b off bytes) m s d plain i l = tt
-  drained n eraseCall m s d plain i l = tt
-  drained n drainCall m s d plain i whole = drained-whole n s d plain i
-  drained n drainCall m s d plain i (other part) = tt
-  drained n (recoverCall y) m s d plain i l = tt
+  drained n (formatCall y) m s d plain i l lent = tt
+  drained n (readCall b off buffer) m s d plain i l lent = tt
+  drained n (writeCall b off bytes) m s d plain i l lent = tt
+  drained n eraseCall m s d plain i l lent = tt
+  drained n drainCall m s d plain i whole lent = drained-whole n s d plain i
+  drained n drainCall m s d plain i (other part) lent = tt
+  drained n (recoverCall y) m s d plain i l lent = tt

@@ -13,14 +13,14 @@ use borrow.Author.Tests.{ne-eqb, eq-eqb}
 use Rattle.lists.specs.Lists.{times, ff}
 use Rattle.lists.proofs.Tests.{and-false}
 use Rattle.model.specs.declared.Sizes.{Sizes}
-use Rattle.model.specs.Sizes.{Device, bucketSize, pagesFor}
+use Rattle.model.specs.Sizes.{Device, bucketSize, pagesFor, body}
 use Rattle.model.specs.Stores.{Store, erase, apply, applyAll, tagOf, bucketBytes, diskBytes}
 use Rattle.model.specs.Spare.{readKind, writeKind, dirtyKind}
-use Rattle.model.specs.Image.{used, epochOf, backOf, isWrite, isCopy, isDirty, complete}
+use Rattle.model.specs.Image.{used, epochOf, backOf, isWrite, isCopy, isDirty, complete, headTag}
 use Rattle.model.specs.Steps.{logStore, logStores}
 use Rattle.model.proofs.Views.{Lay, SafeAt, Quiet, silent, Kept, apart, safe-still, safe-copy, lay-quiet, lay-base}
 use Rattle.model.proofs.Safe.{holdsOf, view, plainAt, Safe, Chip, Sound, Along, Ready}
-use Rattle.model.proofs.Bounds.{Bounds, pages-whole}
+use Rattle.model.proofs.Limits.{Limits, pages-whole, on-chip}
 use Rattle.model.proofs.Tags.{blank-ff}
 use Rattle.model.proofs.Frames.{Lengths, length-bucket, tag-erased}
 use Rattle.model.proofs.Runs.{Stepwise, Run, run-end, run-along}
@@ -28,7 +28,7 @@ use Rattle.model.proofs.Show.{Same, same-refl, same-trans, epochOf-same
 use Rattle.model.proofs.Buckets.{gives-none, holds-none, blank-epoch, blank-no-write, holds-parts, holds-from, holds-other}
 use Rattle.model.proofs.FormedKept.{chip-lengths}
 use Rattle.model.proofs.Plain.{plain-beyond}
-use Rattle.model.proofs.Pages.{Log, tagAt, kind-at, epoch-at, back-at, blank-at, pageAt, fits-at, alike-at, disk-at, Stage, stage-erase, stage-next}
+use Rattle.model.proofs.Pages.{Log, tagAt, kind-at, epoch-at, back-at, blank-at, pageAt, fits-at, alike-at, disk-at, Stage, stage-erase, stage-next, written-head}
 
 -- what holds where a copy of kind k may be made of b: a Read copy needs the disk's bytes under the logs to be plain
 abbrev pub Copyable : Sizes → (k b : ℕ) → List ℕ → Device → Type 0
@@ -45,7 +45,7 @@ pub record Copied (z : Sizes) (plain gs : List ℕ) (c b e k : ℕ) (d f : Devic
   pub dirty : isDirty z f c ≡ eqb k dirtyKind
   pub content : (i : ℕ) → getD (bucketBytes z f c) i 0 ≡ plainAt z plain b i
 
-module _ (z : Sizes) (bounds : Bounds z) (c b e k : ℕ) (bytes : List ℕ) (hc : c < z .c) (hb : b < z .b) (e-low : 1 ≤ e) (e-high : e < 4294967296)
+module _ (z : Sizes) (bounds : Limits z) (c b e k : ℕ) (bytes : List ℕ) (hc : c < body z) (hb : b < z .b) (e-low : 1 ≤ e) (e-high : e < 4294967296)
     (hk : (k ≡ readKind) ⊎ (k ≡ dirtyKind)) (len : length bytes ≡ bucketSize z) where
   -- ---- the copy as a log
 
@@ -85,7 +85,7 @@ module _ (z : Sizes) (bounds : Bounds z) (c b e k : ℕ) (bytes : List ℕ) (hc 
 
     record Way (o : ℕ) (d : Device) : Type 0 where
       stage : Stage bounds log chip₀ (λ h. absurd (omega arith)) o d
-      older : (c' : ℕ) → c' < z .c → c' ≢ c → epochOf z d c' ≤ e
+      older : (c' : ℕ) → c' < body z → c' ≢ c → epochOf z d c' ≤ e
 
     in-pages : (o : ℕ) → o < z .p → o < pagesFor z (length bytes)
     in-pages o h = rw all-pages h
@@ -99,8 +99,8 @@ module _ (z : Sizes) (bounds : Bounds z) (c b e k : ℕ) (bytes : List ℕ) (hc 
         lens : Lengths z d
         lens = chip-lengths z (w .stage .chip)
 
-        go : (c' : ℕ) → c' < z .c → c' ≢ c → Dec (c' ≡ x) → epochOf z (apply z d (erase x)) c' ≤ e
-        go c' hc' ne' (yes q) = rw (q, blank-epoch z (apply z d (erase x)) x (tag-erased z d lens x hx 0 (bounds .p-low))) (omega arith)
+        go : (c' : ℕ) → c' < body z → c' ≢ c → Dec (c' ≡ x) → epochOf z (apply z d (erase x)) c' ≤ e
+        go c' hc' ne' (yes q) = rw (q, blank-epoch z (apply z d (erase x)) x (bounds .p-low) (tag-erased z d lens x hx)) (omega arith)
         go c' hc' ne' (no q) = let u = epochOf-same z (bounds .p-low) d (apply z d (erase x)) c' (same-erase z d lens x hx c' q) in rw u (w .older c' hc' ne')
 
     alike : (o : ℕ) (d : Device) → o < z .p → Way o d → (c' : ℕ) → c' ≢ c → Same z d (apply z d (page o)) c'
@@ -112,13 +112,13 @@ module _ (z : Sizes) (bounds : Bounds z) (c b e k : ℕ) (bytes : List ℕ) (hc 
       older = λ c' hc' ne'. let u = epochOf-same z (bounds .p-low) d (apply z d (page o)) c' (alike o d ho w c' ne') in rw u (w .older c' hc' ne');
     }
 
-    first-page : (o : ℕ) (d : Device) → Way (suc o) d → tagOf z d c 0 ≡ tagAt bounds log 0
-    first-page o d w = w .stage .written 0 (omega arith)
+    head-written : (o : ℕ) (d : Device) → Way (suc o) d → headTag z d c ≡ tagAt bounds log 0
+    head-written o d w = written-head bounds log d (w .stage .written 0 (omega arith))
 
     no-write : (o : ℕ) (d : Device) → Way o d → isWrite z d c ≡ false
     unfolding isWrite
-    no-write zero d w = blank-no-write z d c (w .stage .rest 0 (omega arith) (bounds .p-low))
-    no-write (suc o) d w = rw (first-page o d w, kind-at bounds log 0, ne-eqb k writeKind (kinds .2)) (and-false (used z d c))
+    no-write zero d w = blank-no-write z d c (bounds .p-low) (λ q hq. w .stage .rest q (omega arith) hq)
+    no-write (suc o) d w = rw (head-written o d w, kind-at bounds log 0, ne-eqb k writeKind (kinds .2)) (and-false (used z d c))
 
     not-yet : (o : ℕ) (d : Device) → o < z .p → Way o d → complete z d c ≡ false
     unfolding complete
@@ -127,8 +127,8 @@ module _ (z : Sizes) (bounds : Bounds z) (c b e k : ℕ) (bytes : List ℕ) (hc 
     -- ---- all pages
 
     module _ (d : Device) (w : Way (z .p) d) where
-      first : tagOf z d c 0 ≡ tagAt bounds log 0
-      first = w .stage .written 0 (bounds .p-low)
+      first : headTag z d c ≡ tagAt bounds log 0
+      first = written-head bounds log d (w .stage .written 0 (bounds .p-low))
 
       is-used : used z d c ≡ true
       unfolding used
@@ -171,7 +171,7 @@ module _ (z : Sizes) (bounds : Bounds z) (c b e k : ℕ) (bytes : List ℕ) (hc 
         where
           go : Dec (i < bucketSize z) → getD (bucketBytes z d c) i 0 ≡ plainAt z plain b i
           go (yes u) = is-content d w i u ∙ plain-bytes i u
-          go (no u) = List·getD-eq-default (bucketBytes z d c) 0 (omega (arith, length-bucket z d (chip-lengths z (w .stage .chip)) c hc))
+          go (no u) = List·getD-eq-default (bucketBytes z d c) 0 (omega (arith, length-bucket z d (chip-lengths z (w .stage .chip)) c (on-chip z c hc)))
               ∙ sym (plain-beyond z plain b i (omega arith))
 
       module _ (o : ℕ) (d : Device) (ho : o < z .p) (w : Way o d) where
@@ -260,7 +260,7 @@ module _ (z : Sizes) (bounds : Bounds z) (c b e k : ℕ) (bytes : List ℕ) (hc 
             on-chip : (o : ℕ) → o < pagesFor z (length bytes) → o < z .p
             on-chip o h = omega (arith, all-pages)
 
-        module _ (free : (p : ℕ) → p < z .p → tagOf z d₀ c p ≡ ff 16) (older : (c' : ℕ) → c' < z .c → epochOf z d₀ c' < e)
+        module _ (free : (p : ℕ) → p < z .p → tagOf z d₀ c p ≡ ff 16) (older : (c' : ℕ) → c' < body z → epochOf z d₀ c' < e)
             (good : Along z (Copyable z k b plain) d₀ (map erase gs)) where
           start : Way 0 d₀
           start = record {

@@ -20,12 +20,13 @@ use Rattle.model.specs.Image.{isDirty}
 use Rattle.model.specs.State.{State, moved, holds, cacheOf, caches}
 use Rattle.model.specs.Steps.{merged}
 use Rattle.model.specs.Operations.{unclean, drainStores, isUnclean, isClean, drained, drain}
+use Rattle.model.specs.Tests.{}
 use Rattle.model.specs.Calls.{drainCall, tests, runningTests, refusal, planOf}
 use Rattle.model.specs.Promise.{feed}
 use Rattle.model.proofs.Views.{Lay, top, bare, SafeAt, copied, uncopied}
 use Rattle.model.proofs.Safe.{view, plainAt, Safe, Sound, Along, Inv, Pays}
 use Rattle.model.proofs.Frames.{Lengths}
-use Rattle.model.proofs.Bounds.{Bounds, bounds-of}
+use Rattle.model.proofs.Limits.{Limits, limits-of}
 use Rattle.model.proofs.Formed.{Formed}
 use Rattle.model.proofs.FormedKept.{chip-formed}
 use Rattle.model.proofs.Buckets.{holds-parts}
@@ -45,7 +46,7 @@ use Rattle.model.proofs.Calling.{running-passed, pays-good}
 use Rattle.model.proofs.DrainQueues.{times-selected, length-selected, reads-selected}
 use Rattle.model.proofs.DrainErase.{clean-unwritten, clean-read, times-drained, ready-drained}
 
-module _ (z : Sizes) (B : Bounds z) (plain : List ℕ) (s : State) (d : Device) (j : Inside z plain s d) where
+module _ (z : Sizes) (B : Limits z) (plain : List ℕ) (s : State) (d : Device) (j : Inside z plain s d) where
   s-pos : 1 ≤ z .s
   s-pos = omega (arith, B .s-low)
 
@@ -65,9 +66,9 @@ module _ (z : Sizes) (B : Bounds z) (plain : List ℕ) (s : State) (d : Device) 
       }
 
   abbrev after : Device
-  after = applyAll z d (drain z d s .stores)
+  after = applyAll z d (drain z s d .stores)
 
-  run : Along z (Sound z plain) d (drain z d s .stores) × Ran z B plain (s .gc) (gc-below z plain s d j) (merged z s d) flushes d after
+  run : Along z (Sound z plain) d (drain z s d .stores) × Ran z B plain (s .gc) (gc-below z plain s d j) (merged z s d) flushes d after
   unfolding drain drainStores flushes
   run = units-run z B plain (s .gc) (gc-below z plain s d j) (merged z s d) d flushes may-write d (same-refl z d) (j .chip) (j .ready)
 
@@ -100,7 +101,7 @@ module _ (z : Sizes) (B : Bounds z) (plain : List ℕ) (s : State) (d : Device) 
 
   -- ---- its state
 
-  inside-drained : Inside z plain (drain z d s .state) after
+  inside-drained : Inside z plain (drain z s d .state) after
   unfolding drain moved caches times isClean isUnclean
   inside-drained = record {
     sizes-are = j .sizes-are;
@@ -119,7 +120,7 @@ module _ (z : Sizes) (B : Bounds z) (plain : List ℕ) (s : State) (d : Device) 
     next-high = j .next-high;
   }
 
-  pub drain-good : Good z plain (drain z d s) d
+  pub drain-good : Good z plain (drain z s d) d
   drain-good = (run .0, inside-drained)
 
   -- ---- the disk by itself
@@ -148,7 +149,7 @@ module _ (z : Sizes) (B : Bounds z) (plain : List ℕ) (s : State) (d : Device) 
       go (inl u) = flushed-disk b u i
       go (inr u) = clean-disk b u i
 
-  pub drained-disk : applyAll z d (drain z d s .stores) .disk ≡ plain
+  pub drained-disk : applyAll z d (drain z s d .stores) .disk ≡ plain
   unfolding diskBytes plainAt bucketSize
   drained-disk = ext-getD 0 (after .disk) plain (L .disk-is ∙ sym (j .plain-length)) (λ i hi.
       let N : ℕ = bucketSize z in
@@ -174,12 +175,12 @@ pub drain-pays : (z : Sizes) → Pays z drainCall
 unfolding planOf feed
 drain-pays z s d plain fits i r =
     pays-good z drainCall s d plain refl
-    (subst (λ (y : Sizes). Good z plain (drain y d s) d) (sym (i .sizes-are)) (drain-good z (bounds-of z fits) plain s d (inside z s d plain i (drain-passed s d r))))
+    (subst (λ (y : Sizes). Good z plain (drain y s d) d) (sym (i .sizes-are)) (drain-good z (limits-of z fits) plain s d (inside z s d plain i (drain-passed s d r))))
 
 -- after a Done drain the disk is the plain disk
 pub drain-settles : (z : Sizes) → limits z ≡ true → (s : State) (d : Device) (plain : List ℕ) → Inv z s d plain → refusal drainCall s d ≡ 0
     → applyAll z d (planOf drainCall s d .stores) .disk ≡ plain
 unfolding planOf
 drain-settles z fits s d plain i r =
-    subst (λ (y : Sizes). applyAll z d (drain y d s .stores) .disk ≡ plain) (sym (i .sizes-are))
-    (drained-disk z (bounds-of z fits) plain s d (inside z s d plain i (drain-passed s d r)))
+    subst (λ (y : Sizes). applyAll z d (drain y s d .stores) .disk ≡ plain) (sym (i .sizes-are))
+    (drained-disk z (limits-of z fits) plain s d (inside z s d plain i (drain-passed s d r)))

@@ -14,11 +14,12 @@ use Rattle.lists.proofs.Rows.{map-append}
 use Rattle.lists.proofs.Counts.{times-append}
 use Rattle.lists.proofs.Orders.{Pairwise, pairwise-append, pairwise-cut, pairwise-any, times-sort}
 use Rattle.model.specs.declared.Sizes.{Sizes}
-use Rattle.model.specs.Sizes.{Device}
+use Rattle.model.specs.Sizes.{Device, body}
 use Rattle.model.specs.Stores.{Store, erase, diskBytes}
 use Rattle.model.specs.Image.{epochOf, isDirty}
 use Rattle.model.specs.State.{State, holds, cacheOf, caches}
 use Rattle.model.specs.Operations.{unclean, isUnclean, drained}
+use Rattle.model.proofs.Limits.{on-chip}
 use Rattle.model.proofs.Views.{SafeAt, copied, uncopied}
 use Rattle.model.proofs.Safe.{givesOf, holdsOf, view, plainAt, Safe, Along, Ready}
 use Rattle.model.proofs.Prefix.{along-append}
@@ -84,8 +85,8 @@ module _ (z : Sizes) (d : Device) (s : State) where
     leaves-below x h = go (leaves x h)
       where
         go : Leaves x → x < z .c
-        go (copy b m u) = in-chip z plain s e j x (omega (arith, maps-times (s .reads) b x m))
-        go (log b m) = in-chip z plain s e j x (omega (arith, maps-times (s .writes) b x m))
+        go (copy b m u) = on-chip z x (in-chip z plain s e j x (omega (arith, maps-times (s .reads) b x m)))
+        go (log b m) = on-chip z x (in-chip z plain s e j x (omega (arith, maps-times (s .writes) b x m)))
 
     -- copies before logs
     abbrev Precedes : ℕ → ℕ → Type 0

@@ -25,8 +25,8 @@ module _ (z : Sizes) where
   pub without-gone : 1 ≤ z .p → (d : Device) → Lengths z d → (gs : List ℕ) → Below z gs → Without (view z d) (view z (gone z d gs)) (λ c. 1 ≤ times c gs)
   without-gone p-pos d L gs below = record {
     decide = λ c. decLt 0 (times c gs);
-    gives-gone = λ c b i h. blank-gives z (gone z d gs) c (gone-blank z gs below d L c h 0 p-pos) b i;
-    holds-gone = λ c b h. blank-holds z (gone z d gs) c (gone-blank z gs below d L c h 0 p-pos) b;
+    gives-gone = λ c b i h. blank-gives z (gone z d gs) c p-pos (gone-blank z gs below d L c h) b i;
+    holds-gone = λ c b h. blank-holds z (gone z d gs) c p-pos (gone-blank z gs below d L c h) b;
     gives-left = λ c b i h. gives-same z p-pos d (gone z d gs) c (still c h) b i;
     holds-left = λ c b h. holds-same z p-pos d (gone z d gs) c (still c h) b;
     age-left = λ c h. epochOf-same z p-pos d (gone z d gs) c (still c h);

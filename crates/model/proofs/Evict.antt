@@ -14,8 +14,8 @@ use Rattle.model.specs.Sizes.{Device, bucketSize}
 use Rattle.model.specs.Stores.{applyAll, unitStores}
 use Rattle.model.specs.Spare.{dirtyKind}
 use Rattle.model.specs.State.{State, moved, holds, without}
-use Rattle.model.specs.Steps.{Plan, nothing, _then_, move, dropWrite, merged, copy, evict}
-use Rattle.model.proofs.Bounds.{Bounds}
+use Rattle.model.specs.Steps.{Step, nothing, _then_, move, dropWrite, merged, copy, writeOut, evict}
+use Rattle.model.proofs.Limits.{Limits}
 use Rattle.model.proofs.Safe.{plainAt}
 use Rattle.model.proofs.Units.{Allowed, plain-bytes}
 use Rattle.model.proofs.Queues.{Maps}
@@ -31,7 +31,7 @@ pub record Evicted (b : ℕ) (s t : State) : Type 0 where
   pub writes-are : t .writes ≡ without b (s .writes)
   pub next-near : t .next ≤ s .next + 1
 
-module _ (z : Sizes) (B : Bounds z) (plain : List ℕ) (s : State) (d : Device) (j : Inside z plain s d) (b w : ℕ) (m : Maps (s .writes) b w) where
+module _ (z : Sizes) (B : Limits z) (plain : List ℕ) (s : State) (d : Device) (j : Inside z plain s d) (b w : ℕ) (m : Maps (s .writes) b w) where
   hb : b < z .b
   hb = write-back z plain s d j (B .p-low) b w m
 
@@ -42,40 +42,42 @@ module _ (z : Sizes) (B : Bounds z) (plain : List ℕ) (s : State) (d : Device) 
   bytes-plain i = merged-plain z (B .p-low) (omega (arith, B .s-low)) plain s d j b hb i
 
   -- the Write bucket leaves once the bytes are stored
-  leaves : (p : Plan) → Good z plain p d → p .state .writes ≡ s .writes → ((i : Inside z plain (p .state) (applyAll z d (p .stores))) → Stored z (B .p-low) plain (p .state) (applyAll z d (p .stores)) i b)
-      → Good z plain (p then move (dropWrite b)) d
+  leaves : (f : Step) → Good z plain (f s d) d → f s d .state .writes ≡ s .writes
+      → ((i : Inside z plain (f s d .state) (applyAll z d (f s d .stores))) → Stored z (B .p-low) plain (f s d .state) (applyAll z d (f s d .stores)) i b)
+      → Good z plain ((f then move (dropWrite b)) s d) d
   unfolding move
-  leaves p g e st = then-good z plain p (move (dropWrite b)) d g
-      (nothing-good z plain (dropWrite b (p .state)) (applyAll z d (p .stores))
-      (write-dropped z (B .p-low) plain (p .state) (applyAll z d (p .stores)) (g .1) b w (subst (λ (l : List Entry). Maps l b w) (sym e) m) (st (g .1))))
+  leaves f g e st = then-good z plain f (move (dropWrite b)) s d (j .sizes-are) g
+      (nothing-good z plain (dropWrite b (f s d .state)) (applyAll z d (f s d .stores)) _
+      (write-dropped z (B .p-low) plain (f s d .state) (applyAll z d (f s d .stores)) (g .1) b w (subst (λ (l : List Entry). Maps l b w) (sym e) m) (st (g .1))))
 
-  with-copy : s .next < 4294967296 → holds b (s .reads) ≡ true → Good z plain (copy z dirtyKind b (merged z s d b) s then move (dropWrite b)) d
+  with-copy : s .next < 4294967296 → holds b (s .reads) ≡ true → Good z plain ((copy z dirtyKind b (merged z s d b) then move (dropWrite b)) s d) d
   with-copy room h =
       let f = copy-fresh z B plain b dirtyKind hb (inr refl) (merged z s d b) len (λ i q. bytes-plain i) s d j room (λ q. absurd (omega arith)) in
-      leaves (copy z dirtyKind b (merged z s d b) s)
+      leaves (copy z dirtyKind b (merged z s d b))
       (copy-good z B plain b dirtyKind hb (inr refl) (merged z s d b) len (λ i q. bytes-plain i) s d j room (λ q. absurd (omega arith)) (inl h)) (f .writes-same)
       (λ i. in-copy (f .cache) (f .maps) (f .dirty ∙ eq-eqb dirtyKind dirtyKind refl) (f .content))
 
-  with-disk : holds b (s .reads) ≡ false → Good z plain (record { stores = unitStores z b (merged z s d b); state = s } then move (dropWrite b)) d
+  with-disk : holds b (s .reads) ≡ false → Good z plain ((writeOut z b (merged z s d b) then move (dropWrite b)) s d) d
+  unfolding writeOut
   with-disk n =
       let a : Allowed z B plain (s .gc) (gc-below z plain s d j) b hb (merged z s d b) len d = plain-bytes (λ i q. bytes-plain i) in
-      leaves (record { stores = unitStores z b (merged z s d b); state = s })
+      leaves (writeOut z b (merged z s d b))
       (units-run z B plain s d j b hb (merged z s d b) len a, units-inside z B plain s d j b hb (merged z s d b) len a) refl
       (λ i. on-disk n (λ k. ap (λ (l : List ℕ). getD l k 0) (units-are z B plain s d j b hb (merged z s d b) len a .disk-is) ∙ bytes-plain k))
 
-  pub evict-good : s .next < 4294967296 → Good z plain (evict z d b s) d
+  pub evict-good : s .next < 4294967296 → Good z plain (evict z b s d) d
   unfolding evict
   evict-good room = go (true-or-false (holds b (s .reads)))
     where
-      go : (holds b (s .reads) ≡ true) ⊎ (holds b (s .reads) ≡ false) → Good z plain (evict z d b s) d
+      go : (holds b (s .reads) ≡ true) ⊎ (holds b (s .reads) ≡ false) → Good z plain (evict z b s d) d
       go (inl h) = rw h (with-copy room h)
       go (inr n) = rw n (with-disk n)
 
-  pub evicted : s .next < 4294967296 → Evicted b s (evict z d b s .state)
-  unfolding evict _then_ move nothing dropWrite moved
+  pub evicted : s .next < 4294967296 → Evicted b s (evict z b s d .state)
+  unfolding evict _then_ move nothing writeOut dropWrite moved
   evicted room = go (true-or-false (holds b (s .reads)))
     where
-      go : (holds b (s .reads) ≡ true) ⊎ (holds b (s .reads) ≡ false) → Evicted b s (evict z d b s .state)
+      go : (holds b (s .reads) ≡ true) ⊎ (holds b (s .reads) ≡ false) → Evicted b s (evict z b s d .state)
       go (inl h) =
           let f = copy-fresh z B plain b dirtyKind hb (inr refl) (merged z s d b) len (λ i q. bytes-plain i) s d j room (λ q. absurd (omega arith)) in
           rw h (record { writes-are = ap (without b) (f .writes-same); next-near = omega (arith, f .next-is) })

@@ -12,7 +12,7 @@ use borrow.Author.Tests.{lt-ltb, le-ltb}
 use Rattle.lists.specs.Lists.{if_then_else_, below, times, all, distinct, ff}
 use Rattle.lists.proofs.Orders.{times-below}
 use Rattle.model.specs.declared.Sizes.{Sizes}
-use Rattle.model.specs.Sizes.{Device, limits, lengths}
+use Rattle.model.specs.Sizes.{Device, limits, lengths, body}
 use Rattle.model.specs.Stores.{applyAll, tagOf, diskBytes}
 use Rattle.model.specs.Image.{pageFits, epochOf}
 use Rattle.model.specs.State.{holds, caches, backs}
@@ -20,7 +20,7 @@ use Rattle.model.specs.Operations.{format}
 use Rattle.model.proofs.Views.{uncopied, bare}
 use Rattle.model.proofs.Safe.{givesOf, holdsOf, plainAt, Safe, Chip, Inv}
 use Rattle.model.proofs.Tags.{blank-ff}
-use Rattle.model.proofs.Bounds.{bounds-of}
+use Rattle.model.proofs.Limits.{limits-of, on-chip}
 use Rattle.model.proofs.Frames.{Lengths, lengths-of}
 use Rattle.model.proofs.FormedKept.{chip-of}
 use Rattle.model.proofs.Buckets.{blank-unused, blank-epoch, blank-gives, blank-holds, gives-write, holds-parts}
@@ -49,7 +49,7 @@ blank-fits z d c (suc k) e = rw (e, blank-ff)
 
 module _ (z : Sizes) (fits : limits z ≡ true) (d : Device) (lent : lengths z d ≡ true) where
   p-pos : 1 ≤ z .p
-  p-pos = bounds-of z fits .p-low
+  p-pos = limits-of z fits .p-low
 
   L : Lengths z d
   L = lengths-of z d lent
@@ -57,26 +57,29 @@ module _ (z : Sizes) (fits : limits z ≡ true) (d : Device) (lent : lengths z d
   abbrev wiped : Device
   wiped = gone z d (below (z .c))
 
-  all-below : Below z (below (z .c))
-  all-below g h = go (decLt g (z .c)) (times-below g (z .c))
+  below-in : (n g : ℕ) → 1 ≤ times g (below n) → g < n
+  below-in n g h = go (decLt g n) (times-below g n)
     where
-      go : Dec (g < z .c) → times g (below (z .c)) ≡ (if ltb g (z .c) then 1 else 0) → g < z .c
+      go : Dec (g < n) → times g (below n) ≡ (if ltb g n then 1 else 0) → g < n
       go (yes u) e = u
-      go (no u) e = let e' : times g (below (z .c)) ≡ 0 = e ∙ rw (le-ltb g (z .c) (omega arith)) in absurd (omega arith)
+      go (no u) e = let e' : times g (below n) ≡ 0 = e ∙ rw (le-ltb g n (omega arith)) in absurd (omega arith)
+
+  all-below : Below z (below (z .c))
+  all-below g h = below-in (z .c) g h
 
   wiped-blank : (c : ℕ) → c < z .c → (k : ℕ) → k < z .p → tagOf z (gone z d (below (z .c))) c k ≡ ff 16
   wiped-blank c hc k hk =
       let e : times c (below (z .c)) ≡ 1 = times-below c (z .c) ∙ rw (lt-ltb c (z .c) hc) in
       gone-blank z (below (z .c)) all-below d L c (omega arith) k hk
 
-  wiped-epoch : (c : ℕ) → c < z .c → epochOf z (gone z d (below (z .c))) c ≡ 0
-  wiped-epoch c hc = blank-epoch z wiped c (wiped-blank c hc 0 p-pos)
+  wiped-epoch : (c : ℕ) → c < body z → epochOf z (gone z d (below (z .c))) c ≡ 0
+  wiped-epoch c hc = blank-epoch z wiped c p-pos (wiped-blank c (on-chip z c hc))
 
   wiped-chip : Chip z (gone z d (below (z .c)))
   wiped-chip = chip-of z wiped (gone-lengths z (below (z .c)) all-below d L)
       (record {
-        pages-fit = λ c k hc hk. blank-fits z wiped c k (wiped-blank c hc k hk);
-        epochs-differ = λ c e hc he u. absurd (true≢false (sym u ∙ blank-unused z wiped c (wiped-blank c hc 0 p-pos)));
+        pages-fit = λ c k hc hk. blank-fits z wiped c k (wiped-blank c (on-chip z c hc) k hk);
+        epochs-differ = λ c e hc he u. absurd (true≢false (sym u ∙ blank-unused z wiped c p-pos (wiped-blank c (on-chip z c hc))));
       })
       (λ c hc. rw (wiped-epoch c hc) (omega arith))
 
@@ -87,11 +90,11 @@ module _ (z : Sizes) (fits : limits z ≡ true) (d : Device) (lent : lengths z d
     where
       held : (c : ℕ) (t : Bool) → holdsOf z (gone z d (below (z .c))) c b ≡ t → holdsOf z (gone z d (below (z .c))) c b ≡ false
       held c false q = q
-      held c true q = blank-holds z wiped c (wiped-blank c (holds-parts z wiped c b q .0) 0 p-pos) b
+      held c true q = blank-holds z wiped c p-pos (wiped-blank c (on-chip z c (holds-parts z wiped c b q .0))) b
 
       given : (c i : ℕ) (o : Option ℕ) → givesOf z (gone z d (below (z .c))) c b i ≡ o → givesOf z (gone z d (below (z .c))) c b i ≡ none
       given c i none q = q
-      given c i (some x) q = blank-gives z wiped c (wiped-blank c (gives-write z wiped c b i x q .0) 0 p-pos) b i
+      given c i (some x) q = blank-gives z wiped c p-pos (wiped-blank c (on-chip z c (gives-write z wiped c b i x q .0))) b i
 
   formatted-inside : Inside z (d .disk) (format z .state) (gone z d (below (z .c)))
   unfolding format caches times
@@ -100,12 +103,12 @@ module _ (z : Sizes) (fits : limits z ≡ true) (d : Device) (lent : lengths z d
     plain-length = L .disk-is;
     chip = wiped-chip;
     ready = wiped-safe;
-    once = λ c. omega (arith, times-below c (z .c));
+    once = λ c. omega (arith, times-below c (body z));
     reads = no-reads z wiped;
     writes = no-writes z wiped;
     few-reads = omega arith;
     few-writes = omega arith;
-    free-blank = λ c t k hk. wiped-blank c (all-below c t) k hk;
+    free-blank = λ c t k hk. wiped-blank c (on-chip z c (below-in (body z) c t)) k hk;
     accepted-low = omega arith;
     next-above = λ c hc. rw (wiped-epoch c hc) (omega arith);
     next-low = omega arith;

@@ -6,50 +6,51 @@ use native.Mathlib.Omega.{arith}
 use native.Mathlib.Nat.{add-mul}
 use native.Mathlib.Decide.{ℕ-discrete}
 use lib.Dec.{leb}
-use borrow.Author.Tests.{eqb-true, not-true, le-leb, lt-leb}
+use borrow.Author.Tests.{eqb-true, not-true, not-false, le-leb, lt-leb}
 use Rattle.lists.specs.Lists.{allBelow, ff}
 use Rattle.lists.proofs.Tests.{and-left, and-right, and-true, or-right}
 use Rattle.lists.proofs.Rows.{all-below, below-all, count-last, max-below, max-least}
 use Rattle.lists.proofs.Distinct.{distinct-differ, differ-distinct}
 use Rattle.model.specs.declared.Sizes.{Sizes}
-use Rattle.model.specs.Sizes.{Device}
+use Rattle.model.specs.Sizes.{Device, body}
 use Rattle.model.specs.Stores.{tagOf}
 use Rattle.model.specs.Spare.{blank, kind, ordinal, pages, epoch, back, extent}
-use Rattle.model.specs.Image.{fieldsFit, pageFits, bucketFits, used, epochOf, wellFormed, pageBlank, blanks, endsLog}
+use Rattle.model.specs.Image.{fieldsFit, pageFits, bucketFits, used, epochOf, wellFormed, pageBlank, blanks, endsLog, headTag}
 use Rattle.model.specs.State.{topEpoch}
-use Rattle.model.proofs.Bounds.{pages-hold}
+use Rattle.model.proofs.Limits.{pages-hold}
 use Rattle.model.proofs.Tags.{blank-true}
 use Rattle.model.proofs.Rules.{Fields, fields-of, Follows, follows-of, Goes, begins, goes-on}
+use Rattle.model.proofs.Heads.{Blank, head-page}
 
 -- ---- number 4, bucket by bucket
 
 pub record Formed (z : Sizes) (d : Device) : Type 0 where
-  pub pages-fit : (c k : ℕ) → c < z .c → k < z .p → pageFits z d c k ≡ true
-  pub epochs-differ : (c e : ℕ) → c < z .c → e < z .c → used z d c ≡ true → used z d e ≡ true → epochOf z d c ≡ epochOf z d e → c ≡ e
+  pub pages-fit : (c k : ℕ) → c < body z → k < z .p → pageFits z d c k ≡ true
+  pub epochs-differ : (c e : ℕ) → c < body z → e < body z → used z d c ≡ true → used z d e ≡ true → epochOf z d c ≡ epochOf z d e → c ≡ e
 
 module _ (z : Sizes) (d : Device) where
   pub formed-of : wellFormed z d ≡ true → Formed z d
   unfolding wellFormed bucketFits
   formed-of h = record {
-    pages-fit = λ c k hc hk. all-below (z .p) (pageFits z d c) (all-below (z .c) (bucketFits z d) (and-left (allBelow (z .c) (bucketFits z d)) _ h) c hc) k hk;
-    epochs-differ = distinct-differ (used z d) (epochOf z d) (z .c) (and-right (allBelow (z .c) (bucketFits z d)) _ h);
+    pages-fit = λ c k hc hk. all-below (z .p) (pageFits z d c) (all-below (body z) (bucketFits z d) (and-left (allBelow (body z) (bucketFits z d)) _ h) c hc) k hk;
+    epochs-differ = distinct-differ (used z d) (epochOf z d) (body z) (and-right (allBelow (body z) (bucketFits z d)) _ h);
   }
 
   pub formed-test : Formed z d → wellFormed z d ≡ true
   unfolding wellFormed bucketFits
   formed-test f =
-      and-true (below-all (z .c) (bucketFits z d) (λ c hc. below-all (z .p) (pageFits z d c) (λ k hk. f .pages-fit c k hc hk)))
-      (differ-distinct (used z d) (epochOf z d) (z .c) (f .epochs-differ))
+      and-true (below-all (body z) (bucketFits z d) (λ c hc. below-all (z .p) (pageFits z d c) (λ k hk. f .pages-fit c k hc hk)))
+      (differ-distinct (used z d) (epochOf z d) (body z) (f .epochs-differ))
 
   -- ---- epochs
 
-  pub epoch-top : (c : ℕ) → c < z .c → epochOf z d c ≤ topEpoch z d
+  pub epoch-top : (c : ℕ) → c < body z → epochOf z d c ≤ topEpoch z d
   unfolding topEpoch
-  epoch-top c hc = max-below (z .c) (epochOf z d) c hc
+  epoch-top c hc = max-below (body z) (epochOf z d) c hc
 
-  pub top-least : (m : ℕ) → ((c : ℕ) → c < z .c → epochOf z d c ≤ m) → topEpoch z d ≤ m
+  pub top-least : (m : ℕ) → ((c : ℕ) → c < body z → epochOf z d c ≤ m) → topEpoch z d ≤ m
   unfolding topEpoch
-  top-least m h = max-least (z .c) (epochOf z d) m h
+  top-least m h = max-least (body z) (epochOf z d) m h
 
   -- ---- the pages of one bucket
 
@@ -93,16 +94,24 @@ module _ (z : Sizes) (d : Device) where
     pub used-start : (k : ℕ) → k < z .p - blanks z d c → blank (tagOf z d c k) ≡ false
     used-start k h = blank-from k (omega arith) ∙ lt-leb _ k h
 
-    -- the pages share kind, epoch and back-end bucket with the first
-    pub kind-shared : (k : ℕ) → k < z .p → blank (tagOf z d c k) ≡ false → kind (tagOf z d c k) ≡ kind (tagOf z d c 0)
+    -- a bucket without a page has blank pages alone
+    pub unused-blank : used z d c ≡ false → Blank z d c
+    unfolding used headTag
+    unused-blank u k hk = blank-true (tagOf z d c k) (blank-after 0 k (omega arith) hk (not-false _ u))
+
+    -- the pages share kind, epoch and back-end bucket with the head
+    pub kind-shared : (k : ℕ) → k < z .p → blank (tagOf z d c k) ≡ false → kind (tagOf z d c k) ≡ kind (headTag z d c)
+    unfolding headTag
     kind-shared zero hk nb = refl
     kind-shared (suc k) hk nb = let f = page-follows k hk nb in f .kind-same ∙ kind-shared k (omega arith) (f .before-used)
 
-    pub epoch-shared : (k : ℕ) → k < z .p → blank (tagOf z d c k) ≡ false → epoch (tagOf z d c k) ≡ epoch (tagOf z d c 0)
+    pub epoch-shared : (k : ℕ) → k < z .p → blank (tagOf z d c k) ≡ false → epoch (tagOf z d c k) ≡ epoch (headTag z d c)
+    unfolding headTag
     epoch-shared zero hk nb = refl
     epoch-shared (suc k) hk nb = let f = page-follows k hk nb in f .epoch-same ∙ epoch-shared k (omega arith) (f .before-used)
 
-    pub back-shared : (k : ℕ) → k < z .p → blank (tagOf z d c k) ≡ false → back (tagOf z d c k) ≡ back (tagOf z d c 0)
+    pub back-shared : (k : ℕ) → k < z .p → blank (tagOf z d c k) ≡ false → back (tagOf z d c k) ≡ back (headTag z d c)
+    unfolding headTag
     back-shared zero hk nb = refl
     back-shared (suc k) hk nb = let f = page-follows k hk nb in f .back-same ∙ back-shared k (omega arith) (f .before-used)
 
@@ -139,7 +148,7 @@ module _ (z : Sizes) (d : Device) where
 
   -- ---- a bucket's epoch
 
-  pub epoch-used : (c : ℕ) → used z d c ≡ true → epochOf z d c ≡ epoch (tagOf z d c 0)
+  pub epoch-used : (c : ℕ) → used z d c ≡ true → epochOf z d c ≡ epoch (headTag z d c)
   unfolding epochOf
   epoch-used c h = rw h
 
@@ -148,6 +157,7 @@ module _ (z : Sizes) (d : Device) where
   epoch-unused c h = rw h
 
   -- a bucket has an epoch just where it has a page
-  pub epoch-some : Formed z d → 1 ≤ z .p → (c : ℕ) → c < z .c → used z d c ≡ true → 1 ≤ epochOf z d c
-  unfolding used
-  epoch-some f hp c hc h = rw (epoch-used c h) (page-fields c (λ k hk. f .pages-fit c k hc hk) 0 hp (not-true _ h) .epoch-low)
+  pub epoch-some : Formed z d → 1 ≤ z .p → (c : ℕ) → c < body z → used z d c ≡ true → 1 ≤ epochOf z d c
+  epoch-some f hp c hc h =
+      let p = head-page z hp d c h in
+      rw (epoch-used c h, p .is) (page-fields c (λ k hk. f .pages-fit c k hc hk) (p .page) (p .inside) (p .programmed) .epoch-low)

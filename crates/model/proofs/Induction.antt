@@ -9,29 +9,20 @@ use Rattle.lists.specs.Lists.{part}
 use Rattle.model.specs.declared.Sizes.{Sizes}
 use Rattle.model.specs.declared.Answer.{Answer}
 use Rattle.model.specs.declared.Answer.the-variants.{Done, Cut, Refused}
+use Rattle.model.specs.Tests.{firstFailed}
 use Rattle.model.specs.Sizes.{Device, limits, lengths}
 use Rattle.model.specs.Stores.{applyAll}
 use Rattle.model.specs.State.{State, stopped}
 use Rattle.model.specs.Operations.{format}
-use Rattle.model.specs.Calls.{Call, formatCall, readCall, writeCall, eraseCall, drainCall, recoverCall, Outcome, firstFailed, lentTests, runningTests, tests, refusal, isDone, sizesOf, planOf, doneAnswer, readBuffer, turnedDown, call}
-use Rattle.model.specs.Promise.{Lent, whole, other, Item, MayStand, MayBeLent, Listed, lentOf, leftOf, diskPlace, feed, isRefused, Kept, PartKept, Holds}
-use Rattle.model.specs.Companions.{Claim, Throughout}
+use Rattle.model.specs.Calls.{Call, formatCall, readCall, writeCall, eraseCall, drainCall, recoverCall, Outcome, lentTests, runningTests, tests, refusal, isDone, sizesOf, planOf, doneAnswer, readBuffer, turnedDown, call}
+use Rattle.model.specs.Promise.{Lent, whole, other, Item, MayStand, MayBeLent, lentOf, leftOf, diskPlace, feed, isRefused, Kept, PartKept, Claim, Throughout, Promised}
 use Rattle.model.proofs.Safe.{Chip, Inv, Pays}
-use Rattle.model.proofs.Calling.{first-passed}
+use Rattle.model.proofs.Calling.{first-passed, feed-not}
 use Rattle.model.proofs.Outcomes.{cutShort, carriedOut, Ends, refused, cut, done, ends}
 
 -- ---- the plain disk by answers
 
 module _ (z : Sizes) where
-  feed-not : (k : Call) (a : Answer) (plain : List ℕ) → isDone a ≡ false → feed z k a plain ≡ plain
-  unfolding feed
-  feed-not (formatCall y) a plain e = refl
-  feed-not (readCall b off buffer) a plain e = refl
-  feed-not (writeCall b off bytes) a plain e = rw e
-  feed-not eraseCall a plain e = refl
-  feed-not drainCall a plain e = refl
-  feed-not (recoverCall y) a plain e = refl
-
   -- an erase step alone may be Idle, and it feeds nothing
   feed-done : (k : Call) (s : State) (plain : List ℕ) → feed z k (doneAnswer k s) plain ≡ feed z k Done plain
   unfolding feed doneAnswer
@@ -62,6 +53,11 @@ lent-first (writeCall b off bytes) s d l h = rw (l, h)
 lent-first eraseCall s d l h = rw (l, h)
 lent-first drainCall s d l h = rw (l, h)
 lent-first (recoverCall y) s d l h = rw (l, h)
+
+-- a claim about every call that may stand in the list, wherever the invariant holds
+abbrev pub Each : Sizes → Claim → Type 0
+Each z claim = (n : ℕ) (k : Call) → MayStand z k → (s : State) (d : Device) (plain : List ℕ) → Inv z s d plain → (l : Lent) → MayBeLent z l
+    → claim z plain k l (call n k s (lentOf l d))
 
 module _ (z : Sizes) (fits-limits : limits z ≡ true) where
   pub recover-taken : (s : State) (d : Device) → Chip z d → refusal (recoverCall z) s d ≡ 0
@@ -135,9 +131,9 @@ module _ (z : Sizes) (fits-limits : limits z ≡ true) where
       unfolding stopped isDone
       after-cut r h = record {
         kept = kept-cut plain k _ refl;
-        inv = rw (feed-not z k Cut plain refl, sizes-of z k s may (i .sizes-are)) (record {
+        inv = rw (sizes-of z k s may (i .sizes-are)) (record {
           sizes-are = i .sizes-are;
-          plain-length = i .plain-length;
+          plain-length = rw (feed-not z k Cut plain refl) (i .plain-length);
           sound = owing .pays k may s d plain fits-limits i r .cuts n h;
           live = λ q. absurd (true≢false (sym q));
         });
@@ -171,22 +167,18 @@ module _ (z : Sizes) (fits-limits : limits z ≡ true) where
       called (other part) h =
           rw (part-call part h) (kept-part plain k part (turnedDown 2 k s part) refl, (refl, refl), rw (feed-not z k (Refused 2) plain refl) i)
 
-    -- a claim about each call is one about the list
-    pub throughout : (claim : Claim)
-        → ((n : ℕ) (k : Call) → MayStand z k → (s : State) (d : Device) (plain : List ℕ) → Inv z s d plain → (l : Lent) → claim plain k l (call n k s (lentOf l d)))
-        → (xs : List Item) → Listed z xs → (s : State) (d : Device) (plain : List ℕ) → Inv z s d plain → Throughout claim z xs s d plain
-    unfolding Listed Throughout
-    throughout claim each [] l s d plain i = tt
-    throughout claim each (x ∷ xs) l s d plain i =
-        let c = called (x .allowance) (x .request) (l .0) s d plain i (x .lent) (l .1) in
-        (each (x .allowance) (x .request) (l .0) s d plain i (x .lent), throughout claim each xs (l .2) _ _ _ (c .2))
+    pub promised : Each z Promised
+    unfolding Promised
+    promised n k may s d plain i l lent = let c = called n k may s d plain i l lent in (c .0, c .1)
 
-    pub holds : (xs : List Item) → Listed z xs → (s : State) (d : Device) (plain : List ℕ) → Inv z s d plain → Holds z xs s d plain
-    unfolding Listed Holds
-    holds [] l s d plain i = tt
-    holds (x ∷ xs) l s d plain i =
-        let c = called (x .allowance) (x .request) (l .0) s d plain i (x .lent) (l .1) in
-        (c .0, c .1, holds xs (l .2) _ _ _ (c .2))
+    -- a claim about each call is one about the list
+    pub throughout : (claim : Claim) → Each z claim → (xs : List Item) (s : State) (d : Device) (plain : List ℕ) → Inv z s d plain
+        → Throughout (λ (s : State). s) (λ (s : State) (o : Outcome). o .state) claim z xs s d plain
+    unfolding Throughout
+    throughout claim each [] s d plain i = tt
+    throughout claim each (x ∷ xs) s d plain i = λ may lent.
+        let c = called (x .allowance) (x .request) may s d plain i (x .lent) lent in
+        (each (x .allowance) (x .request) may s d plain i (x .lent) lent, throughout claim each xs _ _ _ (c .2))
 
 -- ---- the start
 

@@ -12,10 +12,11 @@ use borrow.Author.Tests.{lt-ltb, ltb-true}
 use Rattle.lists.specs.Lists.{if_then_else_, times, ff}
 use Rattle.lists.proofs.Counts.{times-append}
 use Rattle.model.specs.declared.Sizes.{Sizes}
-use Rattle.model.specs.Sizes.{Device, bucketSize}
+use Rattle.model.specs.Sizes.{Device, bucketSize, body}
 use Rattle.model.specs.Stores.{erase, tagOf}
 use Rattle.model.specs.Image.{epochOf, backOf, isWrite, complete}
 use Rattle.model.specs.State.{State, caches, queued}
+use Rattle.model.proofs.Limits.{on-chip}
 use Rattle.model.proofs.Safe.{givesOf, holdsOf, found, Safe, Chip, Sound, Ready}
 use Rattle.model.proofs.Frames.{Lengths, lengths-of}
 use Rattle.model.proofs.Show.{Same, backOf-same, holds-same}
@@ -26,6 +27,7 @@ use Rattle.model.proofs.BucketKinds.{complete-copy, copy-used, write-us
 use Rattle.model.proofs.Queues.{Maps, times-maps, maps-times}
 use Rattle.model.proofs.QueuesShown.{Reads, Writes}
 use Rattle.model.proofs.QueuesErased.{gone, Below, gone-lengths, gone-same, gone-blank}
+use Rattle.model.proofs.Heads.{Blank}
 
 -- how often the cache bucket c stands in the queues
 abbrev pub places : State → ℕ → ℕ
@@ -43,14 +45,14 @@ module _ (z : Sizes) where
     pub plain-length : length plain ≡ z .b * bucketSize z
     pub chip : Chip z d
     pub ready : Ready z plain (s .gc) d
-    pub once : (c : ℕ) → places s c ≡ (if ltb c (z .c) then 1 else 0)
+    pub once : (c : ℕ) → places s c ≡ (if ltb c (body z) then 1 else 0)
     pub reads : Reads z d (s .reads)
     pub writes : Writes z d (s .writes)
     pub few-reads : length (s .reads) ≤ z .r
     pub few-writes : length (s .writes) ≤ z .w
-    pub free-blank : (c : ℕ) → 1 ≤ times c (s .free) → (k : ℕ) → k < z .p → tagOf z d c k ≡ ff 16
+    pub free-blank : (c : ℕ) → 1 ≤ times c (s .free) → Blank z d c
     pub accepted-low : s .accepted ≤ 15
-    pub next-above : (c : ℕ) → c < z .c → epochOf z d c < s .next
+    pub next-above : (c : ℕ) → c < body z → epochOf z d c < s .next
     pub next-low : 1 ≤ s .next
     pub next-high : s .next ≤ 4294967296
 
@@ -66,27 +68,27 @@ module _ (z : Sizes) where
 
     -- ---- each cache bucket once
 
-    pub in-chip : (c : ℕ) → 1 ≤ places s c → c < z .c
-    in-chip c h = go (ltb c (z .c)) refl (j .once c)
+    pub in-chip : (c : ℕ) → 1 ≤ places s c → c < body z
+    in-chip c h = go (ltb c (body z)) refl (j .once c)
       where
-        go : (t : Bool) → ltb c (z .c) ≡ t → places s c ≡ (if ltb c (z .c) then 1 else 0) → c < z .c
-        go true e o = ltb-true c (z .c) e
+        go : (t : Bool) → ltb c (body z) ≡ t → places s c ≡ (if ltb c (body z) then 1 else 0) → c < body z
+        go true e o = ltb-true c (body z) e
         go false e o = let o' : places s c ≡ 0 = o ∙ rw e in absurd (omega arith)
 
     pub one-place : (c : ℕ) → places s c ≤ 1
-    one-place c = go (ltb c (z .c)) (j .once c)
+    one-place c = go (ltb c (body z)) (j .once c)
       where
         go : (t : Bool) → places s c ≡ (if t then 1 else 0) → places s c ≤ 1
         go true o = omega arith
         go false o = omega arith
 
-    pub a-place : (c : ℕ) → c < z .c → places s c ≡ 1
-    a-place c h = j .once c ∙ rw (lt-ltb c (z .c) h)
+    pub a-place : (c : ℕ) → c < body z → places s c ≡ 1
+    a-place c h = j .once c ∙ rw (lt-ltb c (body z) h)
 
     -- ---- the chip with the GC queue erased
 
     pub gc-below : Below z (s .gc)
-    gc-below g h = in-chip g (omega arith)
+    gc-below g h = on-chip z g (in-chip g (omega arith))
 
     pub swept-lengths : Lengths z (gone z d (s .gc))
     swept-lengths = gone-lengths z (s .gc) gc-below d lens
@@ -107,26 +109,26 @@ module _ (z : Sizes) where
     pub data Where (c : ℕ) : Type 0 where
       in-reads : (b : ℕ) → Maps (s .reads) b c → Where c
       in-writes : (b : ℕ) → Maps (s .writes) b c → Where c
-      nowhere : tagOf z (gone z d (s .gc)) c 0 ≡ ff 16 → Where c
+      nowhere : Blank z (gone z d (s .gc)) c → Where c
 
     module _ (p-pos : 1 ≤ z .p) where
-      pub look : (c : ℕ) → c < z .c → Where c
+      pub look : (c : ℕ) → c < body z → Where c
       look c hc = go (decLt 0 (times c (s .gc))) (decLt 0 (times c (caches (s .reads)))) (decLt 0 (times c (caches (s .writes))))
         where
           go : Dec (0 < times c (s .gc)) → Dec (0 < times c (caches (s .reads))) → Dec (0 < times c (caches (s .writes))) → Where c
-          go (yes u) v w = nowhere (gone-blank z (s .gc) gc-below d lens c u 0 p-pos)
+          go (yes u) v w = nowhere (gone-blank z (s .gc) gc-below d lens c u)
           go (no u) (yes v) w = let r = times-maps (s .reads) (j .reads .read-once) c v in in-reads (r .0) (r .1)
           go (no u) (no v) (yes w) = let r = times-maps (s .writes) (j .writes .write-once) c w in in-writes (r .0) (r .1)
-          go (no u) (no v) (no w) = nowhere (swept-same c (omega arith) .tags-same 0 p-pos ∙ j .free-blank c (omega (arith, a-place c hc)) 0 p-pos)
+          go (no u) (no v) (no w) = nowhere (λ k hk. swept-same c (omega arith) .tags-same k hk ∙ j .free-blank c (omega (arith, a-place c hc)) k hk)
 
       pub who-gives : (c b i x : ℕ) → givesOf z (gone z d (s .gc)) c b i ≡ some x → Maps (s .writes) b c
       who-gives c b i x e = go (gives-write z (gone z d (s .gc)) c b i x e)
         where
-          go : (c < z .c) × (isWrite z (gone z d (s .gc)) c ≡ true) × (backOf z (gone z d (s .gc)) c ≡ b) × (found z (gone z d (s .gc)) c (z .p) i ≡ some x) → Maps (s .writes) b c
+          go : (c < body z) × (isWrite z (gone z d (s .gc)) c ≡ true) × (backOf z (gone z d (s .gc)) c ≡ b) × (found z (gone z d (s .gc)) c (z .p) i ≡ some x) → Maps (s .writes) b c
           go t = pick (look c (t .0))
             where
               pick : Where c → Maps (s .writes) b c
-              pick (nowhere q) = absurd (true≢false (sym (t .1) ∙ blank-no-write z (gone z d (s .gc)) c q))
+              pick (nowhere q) = absurd (true≢false (sym (t .1) ∙ blank-no-write z (gone z d (s .gc)) c p-pos q))
               pick (in-reads b' m) =
                   let h = holds-same z p-pos d (gone z d (s .gc)) c (read-same b' c m) b' ∙ j .reads .copies b' c m in
                   absurd (true≢false (sym (holds-parts z (gone z d (s .gc)) c b' h .1) ∙ copy-or-write z (gone z d (s .gc)) c (t .1)))
@@ -137,11 +139,11 @@ module _ (z : Sizes) where
       pub who-holds : (c b : ℕ) → holdsOf z (gone z d (s .gc)) c b ≡ true → Maps (s .reads) b c
       who-holds c b e = go (holds-parts z (gone z d (s .gc)) c b e)
         where
-          go : (c < z .c) × (complete z (gone z d (s .gc)) c ≡ true) × (backOf z (gone z d (s .gc)) c ≡ b) → Maps (s .reads) b c
+          go : (c < body z) × (complete z (gone z d (s .gc)) c ≡ true) × (backOf z (gone z d (s .gc)) c ≡ b) → Maps (s .reads) b c
           go t = pick (look c (t .0))
             where
               pick : Where c → Maps (s .reads) b c
-              pick (nowhere q) = absurd (true≢false (sym (t .1) ∙ blank-no-copy z (gone z d (s .gc)) c q))
+              pick (nowhere q) = absurd (true≢false (sym (t .1) ∙ blank-no-copy z (gone z d (s .gc)) c p-pos q))
               pick (in-reads b' m) =
                   let h = holds-parts z d c b' (j .reads .copies b' c m) in
                   let q : b' ≡ b = sym (h .2) ∙ (sym (backOf-same z p-pos d (gone z d (s .gc)) c (read-same b' c m)) ∙ t .2) in

@@ -15,7 +15,7 @@ use Rattle.lists.proofs.Rows.{all-below, below-all, count-full, count-all}
 use Rattle.lists.proofs.Counts.{all-in, in-all, length-once}
 use Rattle.model.specs.declared.Sizes.{Sizes}
 use Rattle.model.specs.declared.Entry.{Entry}
-use Rattle.model.specs.Sizes.{Device, bucketSize}
+use Rattle.model.specs.Sizes.{Device, bucketSize, body}
 use Rattle.model.specs.Stores.{tagOf}
 use Rattle.model.specs.Spare.{blank}
 use Rattle.model.specs.Image.{backOf, isWrite, complete, pageBlank, blanks}
@@ -60,7 +60,7 @@ module _ (s : State) (d : Device) (plain : List ℕ) (chip : Chip (s .sizes) d) 
   abbrev z : Sizes
   z = s .sizes
 
-  reads-of : eachOnce (s .sizes .c) (queued s) ≡ true → distinct (backs (s .reads)) ≡ true → all (readAgrees (s .sizes) d) (s .reads) ≡ true → Reads (s .sizes) d (s .reads)
+  reads-of : eachOnce (body (s .sizes)) (queued s) ≡ true → distinct (backs (s .reads)) ≡ true → all (readAgrees (s .sizes) d) (s .reads) ≡ true → Reads (s .sizes) d (s .reads)
   unfolding readAgrees
   reads-of o ds h = record {
     read-once = ds;
@@ -71,7 +71,7 @@ module _ (s : State) (d : Device) (plain : List ℕ) (chip : Chip (s .sizes) d) 
       copy : (b c : ℕ) → Maps (s .reads) b c → (e : Entry) × (e .back ≡ b) × (e .cache ≡ c) × (readAgrees z d e ≡ true) → holdsOf z d c b ≡ true
       copy b c m t =
           let e = t .0 in
-          rw (← t .1, ← t .2) (holds-from z d (e .cache) (e .back) (rw (t .2) (placed (z .c) s o c (omega (arith, maps-times (s .reads) b c m))))
+          rw (← t .1, ← t .2) (holds-from z d (e .cache) (e .back) (rw (t .2) (placed (body z) s o c (omega (arith, maps-times (s .reads) b c m))))
           (and-left (complete z d (e .cache)) (eqb (backOf z d (e .cache)) (e .back)) (t .3))
           (eqb-true _ _ (and-right (complete z d (e .cache)) (eqb (backOf z d (e .cache)) (e .back)) (t .3))))
 
@@ -94,7 +94,7 @@ module _ (s : State) (d : Device) (plain : List ℕ) (chip : Chip (s .sizes) d) 
     plain-length = pl;
     chip = chip;
     ready = live .ready;
-    once = once-of (z .c) s (every-at _ (live .fits) 0);
+    once = once-of (body z) s (every-at _ (live .fits) 0);
     reads = reads-of (every-at _ (live .fits) 0) (every-at _ (live .fits) 3) (every-at _ (live .fits) 5);
     writes = writes-of (every-at _ (live .fits) 4) (every-at _ (live .fits) 6);
     few-reads = leb-true _ _ (every-at _ (live .fits) 1);
@@ -114,12 +114,12 @@ inside z s d plain i run =
 -- ---- out of a call
 
 module _ (s : State) (d : Device) (plain : List ℕ) (j : Inside (s .sizes) plain s d) where
-  once-test : eachOnce (s .sizes .c) (queued s) ≡ true
+  once-test : eachOnce (body (s .sizes)) (queued s) ≡ true
   unfolding eachOnce isBelow onceIn
   once-test =
-      every-more _ _ (eq-eqb _ _ (length-once (s .sizes .c) (queued s) (λ c. places-queued s c ∙ j .once c)))
-      (every-more _ _ (in-all (isBelow (s .sizes .c)) (queued s) (λ c t. lt-ltb c (s .sizes .c) (in-chip (s .sizes) plain s d j c (omega (arith, places-queued s c)))))
-      (every-more _ _ (below-all (s .sizes .c) (onceIn (queued s)) (λ c hc. eq-eqb _ _ (places-queued s c ∙ a-place (s .sizes) plain s d j c hc))) every-none))
+      every-more _ _ (eq-eqb _ _ (length-once (body (s .sizes)) (queued s) (λ c. places-queued s c ∙ j .once c)))
+      (every-more _ _ (in-all (isBelow (body (s .sizes))) (queued s) (λ c t. lt-ltb c (body (s .sizes)) (in-chip (s .sizes) plain s d j c (omega (arith, places-queued s c)))))
+      (every-more _ _ (below-all (body (s .sizes)) (onceIn (queued s)) (λ c hc. eq-eqb _ _ (places-queued s c ∙ a-place (s .sizes) plain s d j c hc))) every-none))
 
   reads-test : all (readAgrees (s .sizes) d) (s .reads) ≡ true
   unfolding readAgrees

@@ -7,9 +7,10 @@ pub mod Induction
 pub mod Companions
 pub mod Queues
 pub mod QueuesGrown
-pub mod Bounds
+pub mod Limits
 pub mod Tags
 pub mod Frames
+pub mod Heads
 pub mod Show
 pub mod Prefix
 pub mod Buckets

@@ -13,7 +13,7 @@ use Rattle.lists.specs.Lists.{times, ff, splice}
 use Rattle.lists.proofs.Tests.{and-left}
 use Rattle.lists.proofs.Rows.{length-row}
 use Rattle.model.specs.declared.Sizes.{Sizes}
-use Rattle.model.specs.Sizes.{Device, pagesFor}
+use Rattle.model.specs.Sizes.{Device, pagesFor, body}
 use Rattle.model.specs.Stores.{Store, erase, apply, applyAll, tagOf, diskBytes}
 use Rattle.model.specs.Spare.{blank, writeKind}
 use Rattle.model.specs.Image.{used, epochOf, backOf, isWrite, pageFits, blanks}
@@ -21,7 +21,7 @@ use Rattle.model.specs.Steps.{logStore, logStores}
 use Rattle.model.specs.Promise.{diskPlace}
 use Rattle.model.proofs.Views.{SafeAt, Quiet, same, silent, Kept, apart, safe-still, safe-move, safe-log, lay-quiet}
 use Rattle.model.proofs.Safe.{found, givesOf, holdsOf, view, plainAt, Safe, Chip, Sound, Ready}
-use Rattle.model.proofs.Bounds.{Bounds}
+use Rattle.model.proofs.Limits.{Limits}
 use Rattle.model.proofs.Frames.{Lengths, tag-erased}
 use Rattle.model.proofs.Prefix.{along-start}
 use Rattle.model.proofs.Runs.{Stepwise, Run, run-end, run-cut}
@@ -30,12 +30,13 @@ use Rattle.model.proofs.Buckets.{gives-none, holds-none, blank-epoch, b
 use Rattle.model.proofs.Formed.{blank-from, used-start, epoch-unused}
 use Rattle.model.proofs.FormedKept.{chip-lengths, chip-formed}
 use Rattle.model.proofs.Plain.{plain-others, plain-out, plain-in}
-use Rattle.model.proofs.Pages.{Log, tagAt, kind-at, epoch-at, back-at, blank-at, pageAt, fits-at, alike-at, disk-at, Started, Stage, stage-erase, stage-next}
+use Rattle.model.proofs.Pages.{Log, tagAt, kind-at, epoch-at, back-at, blank-at, pageAt, fits-at, alike-at, disk-at, Started, Stage, stage-erase, stage-next, written-head}
 use Rattle.model.proofs.LogFound.{count-pos, found-before, found-in, found-out}
+use Rattle.model.proofs.Heads.{Blank, head-later, head-page}
 
 -- where the log goes: into a blank bucket with an epoch above all, or behind the last page of b's Write bucket
 pub data Place (z : Sizes) (d : Device) (c first e b : ℕ) : Type 0 where
-  fresh : first ≡ 0 → ((c' : ℕ) → c' < z .c → epochOf z d c' < e) → Place z d c first e b
+  fresh : first ≡ 0 → ((c' : ℕ) → c' < body z → epochOf z d c' < e) → Place z d c first e b
   behind : isWrite z d c ≡ true → backOf z d c ≡ b → epochOf z d c ≡ e → blank (tagOf z d c (first - 1)) ≡ false → Place z d c first e b
 
 -- f, where the log has been programmed in d's bucket c
@@ -49,7 +50,7 @@ pub record Logged (z : Sizes) (plain gs : List ℕ) (c b e : ℕ) (d f : Device)
   pub no-copy : (b' : ℕ) → holdsOf z f c b' ≡ false
   pub alone : (b' i : ℕ) → b' ≢ b → givesOf z f c b' i ≡ none
 
-module _ (z : Sizes) (bounds : Bounds z) (c first e b off : ℕ) (bytes : List ℕ) (log : Log z c first writeKind e b off bytes) (d₀ : Device) (chip₀ : Chip z d₀)
+module _ (z : Sizes) (bounds : Limits z) (c first e b off : ℕ) (bytes : List ℕ) (log : Log z c first writeKind e b off bytes) (d₀ : Device) (chip₀ : Chip z d₀)
     (place : Place z d₀ c first e b) where
   abbrev count : ℕ
   count = pagesFor z (length bytes)
@@ -61,7 +62,7 @@ module _ (z : Sizes) (bounds : Bounds z) (c first e b off : ℕ) (bytes : List �
       go (fresh q r) = absurd (omega arith)
       go (behind w q a u) = record { is-write = w; back-is = q; epoch-is = a; last-used = u; kind-is = refl }
 
-  others-differ : (c' : ℕ) → c' < z .c → c' ≢ c → epochOf z d₀ c' ≢ e
+  others-differ : (c' : ℕ) → c' < body z → c' ≢ c → epochOf z d₀ c' ≢ e
   unfolding isWrite
   others-differ c' h ne q = go place
     where
@@ -103,7 +104,7 @@ module _ (z : Sizes) (bounds : Bounds z) (c first e b off : ℕ) (bytes : List �
       lens = chip-lengths z (w .stage .chip)
 
       go : (c' i : ℕ) → c' ≢ c → Dec (c' ≡ x) → (givesOf z (apply z d (erase x)) c' b i ≡ none) ⊎ (epochOf z (apply z d (erase x)) c' ≤ e)
-      go c' i ne' (yes q) = inr (rw (q, blank-epoch z (apply z d (erase x)) x (tag-erased z d lens x hx 0 (bounds .p-low))) (omega arith))
+      go c' i ne' (yes q) = inr (rw (q, blank-epoch z (apply z d (erase x)) x (bounds .p-low) (tag-erased z d lens x hx)) (omega arith))
       go c' i ne' (no q) = newest-same d (apply z d (erase x)) c' i (same-erase z d lens x hx c' q) (w .newest c' i ne')
 
   alike : (o : ℕ) (d : Device) → o < count → Way o d → (c' : ℕ) → c' ≢ c → Same z d (apply z d (page o)) c'
@@ -119,14 +120,16 @@ module _ (z : Sizes) (bounds : Bounds z) (c first e b off : ℕ) (bytes : List �
 
   data Head (o : ℕ) (d : Device) : Type 0 where
     begun : isWrite z d c ≡ true → backOf z d c ≡ b → epochOf z d c ≡ e → Head o d
-    unbegun : first ≡ 0 → o ≡ 0 → tagOf z d c 0 ≡ ff 16 → Head o d
+    unbegun : first ≡ 0 → o ≡ 0 → Blank z d c → Head o d
 
-  head-first : (o : ℕ) (d : Device) → tagOf z d c 0 ≡ tagAt bounds log 0 → Head o d
+  by-first : (o : ℕ) (d : Device) → tagOf z d c 0 ≡ tagAt bounds log 0 → Head o d
   unfolding isWrite backOf epochOf used
-  head-first o d q = begun
-      (rw (q, blank-at bounds log 0, kind-at bounds log 0))
-      (rw (q, back-at bounds log 0))
-      (rw (q, blank-at bounds log 0, epoch-at bounds log 0))
+  by-first o d q =
+      let h = written-head bounds log d q in
+      begun
+      (rw (h, blank-at bounds log 0, kind-at bounds log 0))
+      (rw (h, back-at bounds log 0))
+      (rw (h, blank-at bounds log 0, epoch-at bounds log 0))
 
   head : (o : ℕ) (d : Device) → On o d → Head o d
   head o d s = go (decLt 0 first) (decLt 0 o)
@@ -134,17 +137,17 @@ module _ (z : Sizes) (bounds : Bounds z) (c first e b off : ℕ) (bytes : List �
       go : Dec (0 < first) → Dec (0 < o) → Head o d
       go (yes u) v =
           let t = started u in
-          let q = s .before 0 u in
+          let q = head-later z d₀ d c first u (s .before) in
           begun (write-by z d₀ d c q ∙ t .is-write) (back-by z d₀ d c q ∙ t .back-is) (epoch-by z d₀ d c q ∙ t .epoch-is)
-      go (no u) (yes v) = head-first o d (ap (tagOf z d c) (omega arith) ∙ s .written 0 v)
-      go (no u) (no v) = unbegun (omega arith) (omega arith) (s .rest 0 (omega arith) (bounds .p-low))
+      go (no u) (yes v) = by-first o d (ap (tagOf z d c) (omega arith) ∙ s .written 0 v)
+      go (no u) (no v) = unbegun (omega arith) (omega arith) (λ p hp. s .rest p (omega arith) hp)
 
   no-copy-on : (o : ℕ) (d : Device) → On o d → (b' : ℕ) → holdsOf z d c b' ≡ false
   no-copy-on o d s b' = go (head o d s)
     where
       go : Head o d → holdsOf z d c b' ≡ false
       go (begun w k a) = holds-none z d c (copy-or-write z d c w) b'
-      go (unbegun f q t) = holds-none z d c (blank-no-copy z d c t) b'
+      go (unbegun f q t) = holds-none z d c (blank-no-copy z d c (bounds .p-low) t) b'
 
   none-found : first ≡ 0 → (i : ℕ) → found z d₀ c first i ≡ none
   unfolding found
@@ -181,8 +184,8 @@ module _ (z : Sizes) (bounds : Bounds z) (c first e b off : ℕ) (bytes : List �
         go (begun x k a) (begun x' k' a') (yes r) = rw r (same (gives-found z after c b i (log .bucket-in) x' k' ∙ h r ∙ sym (gave x k)) (a' ∙ sym a))
         go (begun x k a) (begun x' k' a') (no r) = silent (gives-other z d c b' i (λ q. r (sym q ∙ k))) (gives-other z after c b' i (λ q. r (sym q ∙ k')))
         go (unbegun f q t) (begun x' k' a') (yes r) =
-            rw r (silent (gives-none z d c (blank-no-write z d c t) b i) (gives-found z after c b i (log .bucket-in) x' k' ∙ h r ∙ none-found f i))
-        go (unbegun f q t) (begun x' k' a') (no r) = silent (gives-none z d c (blank-no-write z d c t) b' i) (gives-other z after c b' i (λ q. r (sym q ∙ k')))
+            rw r (silent (gives-none z d c (blank-no-write z d c (bounds .p-low) t) b i) (gives-found z after c b i (log .bucket-in) x' k' ∙ h r ∙ none-found f i))
+        go (unbegun f q t) (begun x' k' a') (no r) = silent (gives-none z d c (blank-no-write z d c (bounds .p-low) t) b' i) (gives-other z after c b' i (λ q. r (sym q ∙ k')))
 
     quiets : (b' c' i : ℕ) → (b' ≡ b → c' ≡ c → found z after c (z .p) i ≡ found z d₀ c first i) → Quiet (view z d) (view z after) b' i c'
     quiets b' c' i h = go (ℕ-discrete c' c)
@@ -310,13 +313,15 @@ module _ (z : Sizes) (bounds : Bounds z) (c first e b off : ℕ) (bytes : List �
         }
 
 -- the place behind the last page of a Write bucket
-pub behind-last : (z : Sizes) → 1 ≤ z .p → (d : Device) → Chip z d → (c : ℕ) → c < z .c → isWrite z d c ≡ true
+pub behind-last : (z : Sizes) → 1 ≤ z .p → (d : Device) → Chip z d → (c : ℕ) → c < body z → isWrite z d c ≡ true
     → Place z d c (z .p - blanks z d c) (epochOf z d c) (backOf z d c)
-unfolding isWrite used
+unfolding isWrite
 behind-last z p-pos d chip c hc w = behind w refl refl (used-start z d c fit (z .p - blanks z d c - 1) (omega (arith, some)))
   where
     fit : (k : ℕ) → k < z .p → pageFits z d c k ≡ true
     fit k hk = chip-formed z chip .pages-fit c k hc hk
 
     some : 1 ≤ z .p - blanks z d c
-    some = leb-false _ _ (sym (blank-from z d c fit 0 p-pos) ∙ not-true _ (and-left (not (blank (tagOf z d c 0))) _ w))
+    some =
+        let p = head-page z p-pos d c (and-left (used z d c) _ w) in
+        omega (arith, leb-false (z .p - blanks z d c) (p .page) (sym (blank-from z d c fit (p .page) (p .inside)) ∙ p .programmed))

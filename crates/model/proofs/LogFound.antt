@@ -19,14 +19,14 @@ use Rattle.model.specs.Stores.{tagOf, bucketBytes}
 use Rattle.model.specs.Spare.{writeKind, offset, extent}
 use Rattle.model.specs.Image.{endsLog, logBytes}
 use Rattle.model.proofs.Safe.{Chip, covers, found}
-use Rattle.model.proofs.Bounds.{Bounds, pages-hold, pages-some}
+use Rattle.model.proofs.Limits.{Limits, pages-hold, pages-some, on-chip}
 use Rattle.model.proofs.Tags.{blank-ff}
 use Rattle.model.proofs.Frames.{length-bucket}
 use Rattle.model.proofs.Formed.{log-inside}
 use Rattle.model.proofs.FormedKept.{chip-lengths, chip-formed}
 use Rattle.model.proofs.Pages.{Log, tagAt, ordinal-at, pages-at, offset-at, extent-at, blank-at, Started, Stage}
 
-module _ {z : Sizes} (bounds : Bounds z) {c first e b off : ℕ} {bytes : List ℕ} (log : Log z c first writeKind e b off bytes)
+module _ {z : Sizes} (bounds : Limits z) {c first e b off : ℕ} {bytes : List ℕ} (log : Log z c first writeKind e b off bytes)
     {d₀ : Device} (chip₀ : Chip z d₀) (started : 0 < first → Started bounds log d₀) where
   abbrev count : ℕ
   count = pagesFor z (length bytes)
@@ -81,7 +81,7 @@ module _ {z : Sizes} (bounds : Bounds z) {c first e b off : ℕ} {bytes : List �
   unfolding logBytes
   old-log o d s k h ends =
       rw (s .before k h) (part-alike (bucketBytes z d c) (bucketBytes z d₀ c) _ (extent (tagOf z d₀ c k))
-      (length-bucket z d (chip-lengths z (s .chip)) c (log .bucket-in) ∙ sym (length-bucket z d₀ (chip-lengths z chip₀) c (log .bucket-in)))
+      (length-bucket z d (chip-lengths z (s .chip)) c (on-chip z c (log .bucket-in)) ∙ sym (length-bucket z d₀ (chip-lengths z chip₀) c (on-chip z c (log .bucket-in))))
       (λ j hj. s .old-bytes j (omega (
         arith,
         log-inside z d₀ c (λ k hk. chip-formed z chip₀ .pages-fit c k (log .bucket-in) hk) s-pos k

@@ -13,11 +13,12 @@ use borrow.Author.Tests.{le-leb, lt-leb, lt-ltb, le-ltb}
 use Rattle.lists.specs.Lists.{if_then_else_, splice}
 use Rattle.lists.proofs.Parts.{At, at, outside, inside, length-splice, length-part-fits}
 use Rattle.model.specs.declared.Sizes.{Sizes}
-use Rattle.model.specs.Sizes.{Device, bucketSize}
+use Rattle.model.specs.Sizes.{Device, bucketSize, body}
 use Rattle.model.specs.Stores.{tagOf, bucketBytes}
 use Rattle.model.specs.Spare.{offset, extent}
 use Rattle.model.specs.Image.{endsLog, logBytes, mergeTo, merge}
 use Rattle.model.specs.Recover.{mergeAll}
+use Rattle.model.proofs.Limits.{on-chip}
 use Rattle.model.proofs.Safe.{covers, found}
 use Rattle.model.proofs.Frames.{Lengths, length-bucket}
 use Rattle.model.proofs.Formed.{Formed, page-fields, ends-used, log-inside}
@@ -27,11 +28,11 @@ orElse none x = x
 orElse (some v) x = v
 
 module _ (z : Sizes) (d : Device) (s-pos : 1 ≤ z .s) (lens : Lengths z d) (formed : Formed z d) where
-  module _ (c : ℕ) (hc : c < z .c) where
+  module _ (c : ℕ) (hc : c < body z) where
     pub length-log : (k : ℕ) → k < z .p → endsLog z d c k ≡ true → length (logBytes z d c k) ≡ extent (tagOf z d c k)
     unfolding logBytes bucketSize
     length-log k hk h = length-part-fits (bucketBytes z d c) _ (extent (tagOf z d c k))
-        (rw (length-bucket z d lens c hc) (omega (arith, log-inside z d c (λ j hj. formed .pages-fit c j hc hj) s-pos k hk h, mul-le-mul-right (z .s) hk)))
+        (rw (length-bucket z d lens c (on-chip z c hc)) (omega (arith, log-inside z d c (λ j hj. formed .pages-fit c j hc hj) s-pos k hk h, mul-le-mul-right (z .s) hk)))
 
     -- a complete log lies inside its back-end bucket
     log-fits : (l : List ℕ) → length l ≡ bucketSize z → (k : ℕ) → k < z .p → endsLog z d c k ≡ true → offset (tagOf z d c k) + length (logBytes z d c k) ≤ length l
@@ -84,7 +85,7 @@ module _ (z : Sizes) (d : Device) (s-pos : 1 ≤ z .s) (lens : Lengths z d) (for
 
   -- ---- the logs of several buckets, one after the other
 
-  pub length-mergeAll : (ws : List ℕ) → ((w : ℕ) → List·Memᴰ w ws → w < z .c) → (base : List ℕ) → length base ≡ bucketSize z
+  pub length-mergeAll : (ws : List ℕ) → ((w : ℕ) → List·Memᴰ w ws → w < body z) → (base : List ℕ) → length base ≡ bucketSize z
       → length (mergeAll z d ws base) ≡ bucketSize z
   unfolding mergeAll
   length-mergeAll [] below base h = h
@@ -95,7 +96,7 @@ module _ (z : Sizes) (d : Device) (s-pos : 1 ≤ z .s) (lens : Lengths z d) (for
   abbrev pub Silent : List ℕ → ℕ → Type 0
   Silent ws i = (w : ℕ) → List·Memᴰ w ws → found z d w (z .p) i ≡ none
 
-  pub mergeAll-silent : (ws : List ℕ) → ((w : ℕ) → List·Memᴰ w ws → w < z .c) → (base : List ℕ) → length base ≡ bucketSize z → (i : ℕ) → Silent ws i
+  pub mergeAll-silent : (ws : List ℕ) → ((w : ℕ) → List·Memᴰ w ws → w < body z) → (base : List ℕ) → length base ≡ bucketSize z → (i : ℕ) → Silent ws i
       → getD (mergeAll z d ws base) i 0 ≡ getD base i 0
   unfolding mergeAll orElse
   mergeAll-silent [] below base h i quiet = refl
@@ -110,7 +111,7 @@ module _ (z : Sizes) (d : Device) (s-pos : 1 ≤ z .s) (lens : Lengths z d) (for
   Wins i x [] = ⊥
   Wins i x (w ∷ ws) = ((found z d w (z .p) i ≡ some x) × Silent ws i) ⊎ Wins i x ws
 
-  pub mergeAll-wins : (ws : List ℕ) → ((w : ℕ) → List·Memᴰ w ws → w < z .c) → (base : List ℕ) → length base ≡ bucketSize z → (i x : ℕ) → Wins i x ws
+  pub mergeAll-wins : (ws : List ℕ) → ((w : ℕ) → List·Memᴰ w ws → w < body z) → (base : List ℕ) → length base ≡ bucketSize z → (i x : ℕ) → Wins i x ws
       → getD (mergeAll z d ws base) i 0 ≡ x
   unfolding mergeAll orElse
   mergeAll-wins [] below base h i x r = absurd r

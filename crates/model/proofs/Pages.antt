@@ -13,18 +13,19 @@ use Rattle.lists.specs.Lists.{ff, splice}
 use Rattle.lists.proofs.Tests.{and-left, and-right}
 use Rattle.lists.proofs.Parts.{At, at, outside, inside, length-ff}
 use Rattle.model.specs.declared.Sizes.{Sizes}
-use Rattle.model.specs.Sizes.{Device, bucketSize, pagesFor}
+use Rattle.model.specs.Sizes.{Device, bucketSize, pagesFor, body}
 use Rattle.model.specs.Stores.{Store, program, erase, apply, tagOf, bucketBytes, diskBytes, pageBytes}
 use Rattle.model.specs.Spare.{blank, writeKind, kind, ordinal, pages, epoch, back, offset, extent, tagBytes}
-use Rattle.model.specs.Image.{used, epochOf, backOf, isWrite}
+use Rattle.model.specs.Image.{used, epochOf, backOf, isWrite, headTag}
 use Rattle.model.proofs.Safe.{Chip}
-use Rattle.model.proofs.Bounds.{Bounds}
+use Rattle.model.proofs.Limits.{Limits, on-chip}
 use Rattle.model.proofs.Tags.{length-tag, kind-tag, ordinal-tag, pages-tag, epoch-tag, back-tag, offset-tag, extent-tag, zeros-tag, blank-tag, blank-ff}
 use Rattle.model.proofs.Frames.{Lengths, Fits, page-in-bucket, tag-programmed, tag-other-page, bytes-programmed, disk-programmed}
 use Rattle.model.proofs.Rules.{Fields, Follows, begins, goes-on}
 use Rattle.model.proofs.Formed.{kind-shared, epoch-shared, back-shared, epoch-used, epoch-unused}
 use Rattle.model.proofs.FormedKept.{chip-lengths, chip-formed, chip-erase, chip-program, Next, erased-unused}
 use Rattle.model.proofs.Show.{Same, epochOf-same, same-program, same-erase}
+use Rattle.model.proofs.Heads.{head-first}
 
 module _ (z : Sizes) (bytes : List ℕ) (o : ℕ) where
   pub length-page : length (pageBytes z bytes o) ≡ z .s
@@ -41,7 +42,7 @@ module _ (z : Sizes) (bytes : List ℕ) (o : ℕ) where
 
 -- a log of b that finds its place in the cache bucket c, from page `first` on
 pub record Log (z : Sizes) (c first k e b off : ℕ) (bytes : List ℕ) : Type 0 where
-  pub bucket-in : c < z .c
+  pub bucket-in : c < body z
   pub kind-low : 1 ≤ k
   pub kind-high : k ≤ 3
   pub epoch-low : 1 ≤ e
@@ -52,7 +53,7 @@ pub record Log (z : Sizes) (c first k e b off : ℕ) (bytes : List ℕ) : Type 0
   pub pages-in : first + pagesFor z (length bytes) ≤ z .p
   pub whole : (k ≡ writeKind) ⊎ ((off ≡ 0) × (length bytes ≡ bucketSize z))
 
-module _ {z : Sizes} (bounds : Bounds z) {c first k e b off : ℕ} {bytes : List ℕ} (log : Log z c first k e b off bytes) where
+module _ {z : Sizes} (bounds : Limits z) {c first k e b off : ℕ} {bytes : List ℕ} (log : Log z c first k e b off bytes) where
   -- ---- the tags
 
   abbrev pub tagAt : ℕ → List ℕ
@@ -81,6 +82,10 @@ module _ {z : Sizes} (bounds : Bounds z) {c first k e b off : ℕ} {bytes : List
 
   pub blank-at : (o : ℕ) → blank (tagAt o) ≡ false
   blank-at o = blank-tag k o (pagesFor z (length bytes)) e b off (length bytes) (omega (arith, log .kind-high))
+
+  -- the first page of a log that begins its bucket is the head
+  pub written-head : (d : Device) → tagOf z d c 0 ≡ tagAt 0 → headTag z d c ≡ tagAt 0
+  written-head d q = head-first z d c (ap blank q ∙ blank-at 0) ∙ q
 
   fields-at : (o : ℕ) → o < pagesFor z (length bytes) → Fields z (tagAt o)
   fields-at o ho = record {
@@ -116,7 +121,7 @@ module _ {z : Sizes} (bounds : Bounds z) {c first k e b off : ℕ} {bytes : List
   pageAt o = program c (first + o) (pageBytes z bytes o) (tagAt o)
 
   pub fits-at : (o : ℕ) → o < pagesFor z (length bytes) → Fits z (pageAt o)
-  fits-at o h = (log .bucket-in, omega (arith, log .pages-in), length-page z bytes o, length-tag k o (pagesFor z (length bytes)) e b off (length bytes))
+  fits-at o h = (on-chip z c (log .bucket-in), omega (arith, log .pages-in), length-page z bytes o, length-tag k o (pagesFor z (length bytes)) e b off (length bytes))
 
   pub alike-at : (o : ℕ) → o < pagesFor z (length bytes) → (d : Device) → Chip z d → (c' : ℕ) → c' ≢ c → Same z d (apply z d (pageAt o)) c'
   alike-at o h d chip c' ne = same-program z d (chip-lengths z chip) c (first + o) (pageBytes z bytes o) (tagAt o) (fits-at o h) c' ne
@@ -143,7 +148,7 @@ module _ {z : Sizes} (bounds : Bounds z) {c first k e b off : ℕ} {bytes : List
       pub rest : (p : ℕ) → first + o ≤ p → p < z .p → tagOf z d c p ≡ ff 16
       pub old-bytes : (j : ℕ) → j < first * z .s → getD (bucketBytes z d c) j 0 ≡ getD (bucketBytes z d₀ c) j 0
       pub content : (j : ℕ) → j < o * z .s → j < length bytes → getD (bucketBytes z d c) (first * z .s + j) 0 ≡ getD bytes j 0
-      pub others : (c' : ℕ) → c' < z .c → c' ≢ c → epochOf z d c' ≢ e
+      pub others : (c' : ℕ) → c' < body z → c' ≢ c → epochOf z d c' ≢ e
 
     -- another bucket's erase
     pub stage-erase : (o : ℕ) (d : Device) (x : ℕ) → x < z .c → c ≢ x → o ≤ pagesFor z (length bytes) → Stage o d → Stage o (apply z d (erase x))
@@ -160,7 +165,7 @@ module _ {z : Sizes} (bounds : Bounds z) {c first k e b off : ℕ} {bytes : List
           others = λ c' hc' ne'. apart c' hc' ne' (ℕ-discrete c' x);
         }
       where
-        apart : (c' : ℕ) → c' < z .c → c' ≢ c → Dec (c' ≡ x) → epochOf z (apply z d (erase x)) c' ≢ e
+        apart : (c' : ℕ) → c' < body z → c' ≢ c → Dec (c' ≡ x) → epochOf z (apply z d (erase x)) c' ≢ e
         apart c' hc' ne' (yes q) r =
             omega (
               arith,
@@ -212,7 +217,7 @@ module _ {z : Sizes} (bounds : Bounds z) {c first k e b off : ℕ} {bytes : List
     -- the next page
     pub stage-next : (o : ℕ) (d : Device) → o < pagesFor z (length bytes) → Stage o d → Stage (suc o) (apply z d (pageAt o))
     stage-next o d ho s = record {
-      chip = chip-program z (bounds .p-low) d c (first + o) (pageBytes z bytes o) (tagAt o) (fits-at o ho) (s .chip)
+      chip = chip-program z (bounds .p-low) d c (first + o) (pageBytes z bytes o) (tagAt o) (fits-at o ho) (log .bucket-in) (s .chip)
           (ap blank (s .rest (first + o) (omega arith) (omega (arith, log .pages-in))) ∙ blank-ff)
           (fields-at o ho) (next-fits o d ho s (first + o) refl);
       before = λ p hp. other p (λ q. omega arith) ∙ s .before p hp;
@@ -238,7 +243,7 @@ module _ {z : Sizes} (bounds : Bounds z) {c first k e b off : ℕ} {bytes : List
 
         spliced : (j : ℕ) → At (bucketBytes z d c) ((first + o) * z .s) (pageBytes z bytes o) j
         spliced j = at (bucketBytes z d c) ((first + o) * z .s) (pageBytes z bytes o)
-            (page-in-bucket z d lens c (first + o) (pageBytes z bytes o) (log .bucket-in) (omega (arith, log .pages-in)) (length-page z bytes o)) j
+            (page-in-bucket z d lens c (first + o) (pageBytes z bytes o) (on-chip z c (log .bucket-in)) (omega (arith, log .pages-in)) (length-page z bytes o)) j
 
         old : (j : ℕ) → j < first * z .s → At (bucketBytes z d c) ((first + o) * z .s) (pageBytes z bytes o) j
             → getD (splice (bucketBytes z d c) ((first + o) * z .s) (pageBytes z bytes o)) j 0 ≡ getD (bucketBytes z d₀ c) j 0

@@ -12,17 +12,17 @@ use Rattle.lists.specs.Lists.{if_then_else_, empty, times, all, below, keep}
 use Rattle.lists.proofs.Tests.{true-or-false, every-at, and-left, and-right}
 use Rattle.lists.proofs.Counts.{grown-some, below-grown}
 use Rattle.model.specs.declared.Sizes.{Sizes}
-use Rattle.model.specs.Sizes.{Device, pagesFor}
+use Rattle.model.specs.Sizes.{Device, pagesFor, body}
 use Rattle.model.specs.Stores.{applyAll, bucketBytes, unitStores}
 use Rattle.model.specs.Spare.{blank, readKind, writeKind, dirtyKind}
 use Rattle.model.specs.Image.{epochOf, isDirty, blanks}
 use Rattle.model.specs.State.{State, moved, entry, holds, cacheOf, cachesOf, without, stateFits}
-use Rattle.model.specs.Steps.{Plan, nothing, _then_, move, eraseStep, makeRoom, taken, dropWrite, takeCopy, merged, copy, evict}
-use Rattle.model.specs.Operations.{lastEpoch, victim, fits, makeWay, appendLog, startLog, write, dropOldest, read, unclean, drainStores, drain, format}
+use Rattle.model.specs.Steps.{Plan, Step, nothing, _then_, move, eraseStep, makeRoom, taken, dropWrite, takeCopy, merged, fillCopy, copy, writeOut, evict, freed}
+use Rattle.model.specs.Operations.{lastEpoch, victim, fits, makeWay, appendLog, startLog, write, dropOldest, read, unclean, drainStores, drain, format, outgoing, evictAny, withoutOldest}
 use Rattle.model.specs.Recover.{isRescued, rescued, rescueStores, recover}
 use Rattle.model.specs.Calls.{formatCall, readCall, writeCall, eraseCall, drainCall, recoverCall, sizesOf, planOf}
 use Rattle.model.specs.StoresMade.{Rising, ProgramsRise}
-use Rattle.model.proofs.Bounds.{pages-fit}
+use Rattle.model.proofs.Limits.{pages-fit, on-chip}
 use Rattle.model.proofs.Frames.{length-bucket}
 use Rattle.model.proofs.Formed.{blank-end, used-start}
 use Rattle.model.proofs.Tags.{blank-ff}
@@ -44,15 +44,15 @@ format-none : (z : Sizes) → all isNoProgram (format z .stores) ≡ true
 unfolding format
 format-none z = none-erase (below (z .c))
 
-erase-none : (s : State) → all isNoProgram (eraseStep s .stores) ≡ true
-unfolding eraseStep nothing all isNoProgram
-erase-none s = go (true-or-false (empty (s .gc)))
+erase-none : (z : Sizes) (s : State) (d : Device) → all isNoProgram (eraseStep z s d .stores) ≡ true
+unfolding eraseStep freed nothing all isNoProgram
+erase-none z s d = go (true-or-false (empty (s .gc)))
   where
-    go : (empty (s .gc) ≡ true) ⊎ (empty (s .gc) ≡ false) → all isNoProgram (eraseStep s .stores) ≡ true
+    go : (empty (s .gc) ≡ true) ⊎ (empty (s .gc) ≡ false) → all isNoProgram (eraseStep z s d .stores) ≡ true
     go (inl e) = rw e
     go (inr e) = rw e
 
-drain-none : (z : Sizes) (d : Device) (s : State) → all isNoProgram (drain z d s .stores) ≡ true
+drain-none : (z : Sizes) (d : Device) (s : State) → all isNoProgram (drain z s d .stores) ≡ true
 unfolding drain drainStores
 drain-none z d s = none-concat (drainStores z d s) (λ b. none-units z b (merged z s d b)) (keep (unclean z d s) (below (z .b)))
 
@@ -61,9 +61,9 @@ unfolding recover rescueStores
 recover-none z d = none-concat (rescueStores z d) (λ b. none-units z b (rescued z d b)) (keep (isRescued z d) (below (z .b)))
 
 -- a copy leaves the write queue
-copy-writes : (z : Sizes) (k b : ℕ) (bytes : List ℕ) (s : State) → (empty (s .free) ≡ false) ⊎ (empty (s .gc) ≡ false) → copy z k b bytes s .state .writes ≡ s .writes
-unfolding copy _then_ takeCopy taken moved
-copy-writes z k b bytes s some = room-there s some .writes-same
+copy-writes : (z : Sizes) (k b : ℕ) (bytes : List ℕ) (s : State) (d : Device) → (empty (s .free) ≡ false) ⊎ (empty (s .gc) ≡ false) → copy z k b bytes s d .state .writes ≡ s .writes
+unfolding copy fillCopy _then_ takeCopy taken moved
+copy-writes z k b bytes s d some = room-there z s d some .writes-same
 
 -- ---- a call that passed its tests
 
@@ -74,9 +74,10 @@ module _ (s : State) (d : Device) (pass : Passed s d) where
   start : Pool (s .sizes) s d
   unfolding stateFits
   start = record {
+    at-sizes = refl;
     lens = lens s d pass;
     in-chip = λ c h. in-place s d pass c (omega arith);
-    once = λ c. go c (ltb c (z .c)) (once-of (z .c) s (every-at _ (pass .state-fits) 0) c);
+    once = λ c. go c (ltb c (body z)) (once-of (body z) s (every-at _ (pass .state-fits) 0) c);
     blanks = blanks-of z d (s .free) (every-at _ (pass .state-fits) 7);
   }
     where
@@ -86,13 +87,13 @@ module _ (s : State) (d : Device) (pass : Passed s d) where
 
   some : (empty (s .free) ≡ false) ⊎ (empty (s .gc) ≡ false)
   unfolding stateFits
-  some = some-left (z .c) s (once-of (z .c) s (every-at _ (pass .state-fits) 0))
+  some = some-left (body z) s (once-of (body z) s (every-at _ (pass .state-fits) 0))
       (omega (arith, leb-true (length (s .reads)) (z .r) (every-at _ (pass .state-fits) 1), leb-true (length (s .writes)) (z .w) (every-at _ (pass .state-fits) 2), bounds s d pass .room))
 
   merged-pages : (b : ℕ) → b < s .sizes .b → pagesFor (s .sizes) (length (merged (s .sizes) s d b)) ≤ s .sizes .p
   merged-pages b hb = pages-fit z _ (omega (arith, bounds s d pass .s-low)) (omega (arith, merged-size s d pass b hb))
 
-  gc-in : (c : ℕ) → 1 ≤ times c (s .gc) → c < s .sizes .c
+  gc-in : (c : ℕ) → 1 ≤ times c (s .gc) → c < body (s .sizes)
   gc-in c h = in-place s d pass c (omega arith)
 
   -- ---- a read
@@ -100,7 +101,7 @@ module _ (s : State) (d : Device) (pass : Passed s d) where
   -- a copy may follow
   record Able (t : State) : Type 0 where
     some-there : (empty (t .free) ≡ false) ⊎ (empty (t .gc) ≡ false)
-    reads-there : (b c : ℕ) → Maps (t .reads) b c → c < s .sizes .c
+    reads-there : (b c : ℕ) → Maps (t .reads) b c → c < body (s .sizes)
 
   module _ (b r : ℕ) (m : Maps (s .reads) b r) where
     abbrev left : State
@@ -108,8 +109,8 @@ module _ (s : State) (d : Device) (pass : Passed s d) where
 
     left-pool : (e : Device) → Pool (s .sizes) s e → Pool (s .sizes) (moved s (without b (s .reads)) (s .writes) (s .gc ++ cachesOf b (s .reads)) (s .free)) e
     unfolding moved
-    left-pool e pool = pool-moved z s left e e pool (pool .lens) (λ c. omega arith)
-        (below-grown (z .c) (s .gc) (cachesOf b (s .reads)) gc-in (given-up (s .reads) b (z .c) (reads-in s d pass b))) (λ c q k hk. refl)
+    left-pool e pool = pool-moved z s left e e pool refl (pool .lens) (λ c. omega arith)
+        (below-grown (body z) (s .gc) (cachesOf b (s .reads)) gc-in (given-up (s .reads) b (body z) (reads-in s d pass b))) (λ c q k hk. refl)
 
     left-able : Able (moved s (without b (s .reads)) (s .writes) (s .gc ++ cachesOf b (s .reads)) (s .free))
     unfolding moved
@@ -122,38 +123,38 @@ module _ (s : State) (d : Device) (pass : Passed s d) where
       stores = if isDirty (s .sizes) d r then unitStores (s .sizes) b (bucketBytes (s .sizes) d r) else [];
       state = moved s (without b (s .reads)) (s .writes) (s .gc ++ cachesOf b (s .reads)) (s .free);
     }) d
-    unfolding applyAll Rising
+    unfolding applyAll Rising writeOut
     left-rises = go (true-or-false (isDirty z d r))
       where
         go : (isDirty z d r ≡ true) ⊎ (isDirty z d r ≡ false) → Rises z (record { stores = if isDirty z d r then unitStores z b (bucketBytes z d r) else []; state = left }) d
         go (inr q) = rw q (record { rising = tt; pool = left-pool d start })
         go (inl q) =
-            let u = units-rise z s d start b (read-back s d pass b r m) (bucketBytes z d r) (length-bucket z d (lens s d pass) r (reads-in s d pass b r m)) in
+            let u = units-rise z s d start b (read-back s d pass b r m) (bucketBytes z d r) (length-bucket z d (lens s d pass) r (on-chip z r (reads-in s d pass b r m))) in
             rw q (record { rising = u .rising; pool = left-pool _ (u .pool) })
 
-  oldest-rises : Rises (s .sizes) (dropOldest (s .sizes) d s) d × Able (dropOldest (s .sizes) d s .state)
-  unfolding dropOldest stateFits nothing
+  oldest-rises : Rises (s .sizes) (dropOldest (s .sizes) s d) d × Able (dropOldest (s .sizes) s d .state)
+  unfolding dropOldest withoutOldest stateFits nothing
   oldest-rises = go (true-or-false (ltb (length (s .reads)) (z .r)))
     where
-      go : (ltb (length (s .reads)) (z .r) ≡ true) ⊎ (ltb (length (s .reads)) (z .r) ≡ false) → Rises z (dropOldest z d s) d × Able (dropOldest z d s .state)
-      go (inl f) = rw f (nothing-rises z s d start, record { some-there = some; reads-there = reads-in s d pass })
+      go : (ltb (length (s .reads)) (z .r) ≡ true) ⊎ (ltb (length (s .reads)) (z .r) ≡ false) → Rises z (dropOldest z s d) d × Able (dropOldest z s d .state)
+      go (inl f) = rw f (nothing-rises z s d d start, record { some-there = some; reads-there = reads-in s d pass })
       go (inr f) =
           let o = oldest (s .reads) (every-at _ (pass .state-fits) 3) (omega (arith, ltb-false (length (s .reads)) (z .r) f, bounds s d pass .r-low)) in
           let first = getD (s .reads) 0 (entry 0 0 0) in
           rw (f, o .rest-is, o .cache-is) (left-rises (first .back) (first .cache) (o .maps-it), left-able (first .back) (first .cache) (o .maps-it))
 
-  copied : (k b : ℕ) → k < 4 → b < s .sizes .b → (t : State) (e : Device) → Pool (s .sizes) t e → Able t → Rises (s .sizes) (copy (s .sizes) k b (merged (s .sizes) s d b) t) e
+  copied : (k b : ℕ) → k < 4 → b < s .sizes .b → (t : State) (e : Device) → Pool (s .sizes) t e → Able t → Rises (s .sizes) (copy (s .sizes) k b (merged (s .sizes) s d b) t e) e
   copied k b hk hb t e pool able = copy-rises z t e pool (able .some-there) (able .reads-there) k b (merged z s d b) hk (merged-pages b hb)
 
-  read-rises : (b : ℕ) → b < s .sizes .b → Rising (s .sizes) d (read (s .sizes) d b s .stores)
+  read-rises : (b : ℕ) → b < s .sizes .b → Rising (s .sizes) d (read (s .sizes) b s d .stores)
   unfolding read nothing move Rising
   read-rises b hb = go (true-or-false (ltb lastEpoch (s .next))) (true-or-false (holds b (s .reads))) (true-or-false (holds b (s .writes)))
     where
-      miss : (k : ℕ) → k < 4 → Rises z (dropOldest z d s then copy z k b (merged z s d b)) d
-      miss k hk = then-rises z (dropOldest z d s) (copy z k b (merged z s d b)) d (oldest-rises .0) (copied k b hk hb _ _ (oldest-rises .0 .pool) (oldest-rises .1))
+      miss : (k : ℕ) → k < 4 → Rises z ((dropOldest z then copy z k b (merged z s d b)) s d) d
+      miss k hk = then-rises z (dropOldest z) (copy z k b (merged z s d b)) s d refl (oldest-rises .0) (copied k b hk hb _ _ (oldest-rises .0 .pool) (oldest-rises .1))
 
       go : (ltb lastEpoch (s .next) ≡ true) ⊎ (ltb lastEpoch (s .next) ≡ false) → (holds b (s .reads) ≡ true) ⊎ (holds b (s .reads) ≡ false)
-          → (holds b (s .writes) ≡ true) ⊎ (holds b (s .writes) ≡ false) → Rising z d (read z d b s .stores)
+          → (holds b (s .writes) ≡ true) ⊎ (holds b (s .writes) ≡ false) → Rising z d (read z b s d .stores)
       go (inl e) r w = rw e tt
       go (inr e) (inl r) (inl w) = rw (e, r, w) (copied dirtyKind b (omega arith) hb s d start (record { some-there = some; reads-there = reads-in s d pass }) .rising)
       go (inr e) (inl r) (inr w) = rw (e, r, w) tt
@@ -175,67 +176,69 @@ module _ (s : State) (d : Device) (pass : Passed s d) where
     maps-v : Maps (s .writes) v (cacheOf v (s .writes))
     maps-v = record { held = h; is = refl }
 
-    leaves : (p : Plan) → Rises (s .sizes) p d → p .state .writes ≡ s .writes → Opens (p then move (dropWrite v))
+    leaves : (f : Step) → Rises (s .sizes) (f s d) d → f s d .state .writes ≡ s .writes → Opens ((f then move (dropWrite v)) s d)
     unfolding move dropWrite moved _then_ nothing
-    leaves p r e = record {
-      rises = then-rises z p (move (dropWrite v)) d r (nothing-rises z (dropWrite v (p .state)) (applyAll z d (p .stores))
-          (pool-moved z (p .state) (dropWrite v (p .state)) _ _ (r .pool) (r .pool .lens) (λ c. omega arith)
-          (below-grown (z .c) (p .state .gc) (cachesOf v (p .state .writes)) (λ c q. r .pool .in-chip c (omega arith))
-          (given-up (p .state .writes) v (z .c) (λ c m. writes-in s d pass v c (rw (← e) m)))) (λ c q k hk. refl)));
-      some-there = inr (rw (e, cachesOf-one (s .writes) v w maps-v) (grown-some (p .state .gc) w));
+    leaves f r e = record {
+      rises = then-rises z f (move (dropWrite v)) s d refl r (nothing-rises z (dropWrite v (f s d .state)) (applyAll z d (f s d .stores)) d
+          (pool-moved z (f s d .state) (dropWrite v (f s d .state)) _ _ (r .pool) refl (r .pool .lens) (λ c. omega arith)
+          (below-grown (body z) (f s d .state .gc) (cachesOf v (f s d .state .writes)) (λ c q. r .pool .in-chip c (omega arith))
+          (given-up (f s d .state .writes) v (body z) (λ c m. writes-in s d pass v c (rw (← e) m)))) (λ c q k hk. refl)));
+      some-there = inr (rw (e, cachesOf-one (s .writes) v w maps-v) (grown-some (f s d .state .gc) w));
     }
 
-    evict-opens : Opens (evict (s .sizes) d v s)
-    unfolding evict
+    evict-opens : Opens (evict (s .sizes) v s d)
+    unfolding evict writeOut
     evict-opens = go (true-or-false (holds v (s .reads)))
       where
         hv : v < z .b
         hv = write-back s d pass v w maps-v
 
-        go : (holds v (s .reads) ≡ true) ⊎ (holds v (s .reads) ≡ false) → Opens (evict z d v s)
-        go (inl q) = rw q (leaves (copy z dirtyKind v (merged z s d v) s) (copied dirtyKind v (omega arith) hv s d start (record { some-there = some; reads-there = reads-in s d pass })) (copy-writes z dirtyKind v (merged z s d v) s some))
-        go (inr q) = rw q (leaves (record { stores = unitStores z v (merged z s d v); state = s }) (units-rise z s d start v hv (merged z s d v) (merged-size s d pass v hv)) refl)
+        go : (holds v (s .reads) ≡ true) ⊎ (holds v (s .reads) ≡ false) → Opens (evict z v s d)
+        go (inl q) = rw q (leaves (copy z dirtyKind v (merged z s d v)) (copied dirtyKind v (omega arith) hv s d start (record { some-there = some; reads-there = reads-in s d pass })) (copy-writes z dirtyKind v (merged z s d v) s d some))
+        go (inr q) = rw q (leaves (writeOut z v (merged z s d v)) (units-rise z s d start v hv (merged z s d v) (merged-size s d pass v hv)) refl)
 
-  way-opens : (b : ℕ) → Opens (makeWay (s .sizes) d b s)
-  unfolding makeWay nothing
+  way-opens : (b : ℕ) → Opens (makeWay (s .sizes) b s d)
+  unfolding makeWay outgoing evictAny nothing
   way-opens b = go (true-or-false (holds b (s .writes))) (true-or-false (leb (z .w) (length (s .writes))))
     where
       go : (holds b (s .writes) ≡ true) ⊎ (holds b (s .writes) ≡ false) → (leb (z .w) (length (s .writes)) ≡ true) ⊎ (leb (z .w) (length (s .writes)) ≡ false)
-          → Opens (makeWay z d b s)
+          → Opens (makeWay z b s d)
       go (inl q) l = rw q (evict-opens b q)
-      go (inr q) (inl l) = rw (q, l) (evict-opens (victim z d s) (victim-in z d s (omega (arith, leb-true (z .w) (length (s .writes)) l, bounds s d pass .w-low))))
-      go (inr q) (inr l) = rw (q, l) (record { rises = nothing-rises z s d start; some-there = some })
+      go (inr q) (inl l) = rw (q, l) (evict-opens (victim z d (s .writes)) (victim-in z d (s .writes) (omega (arith, leb-true (z .w) (length (s .writes)) l, bounds s d pass .w-low))))
+      go (inr q) (inr l) = rw (q, l) (record { rises = nothing-rises z s d d start; some-there = some })
 
   module _ (b off : ℕ) (bytes : List ℕ) (range : Range (s .sizes) b off (length bytes)) where
     few : pagesFor (s .sizes) (length bytes) ≤ s .sizes .p
     few = pages-fit z (length bytes) (omega (arith, bounds s d pass .s-low)) (omega (arith, range .range-in))
 
-    anew-rises : Rising (s .sizes) d ((makeWay (s .sizes) d b s then makeRoom then startLog (s .sizes) d b off bytes) .stores)
+    anew-rises : Rising (s .sizes) d ((makeWay (s .sizes) b then makeRoom (s .sizes) then startLog (s .sizes) b off bytes) s d .stores)
     unfolding _then_ startLog
     anew-rises =
         let way = way-opens b in
-        let t = makeWay z d b s .state in
-        let room = then-rises z (makeWay z d b s) makeRoom d (way .rises) (room-rises z t (applyAll z d (makeWay z d b s .stores)) (way .rises .pool)) in
-        rising-append z (makeWay z d b s .stores ++ makeRoom t .stores) _ d (room .rising)
-        (taken-rises z (makeRoom t .state) _ (room .pool) (room-there t (way .some-there) .has-free) writeKind (makeRoom t .state .next) b off bytes (omega arith) few)
+        let t = makeWay z b s d .state in
+        let e = applyAll z d (makeWay z b s d .stores) in
+        let room = room-rises z t e (way .rises .pool) in
+        rising-append z (makeWay z b s d .stores) _ d (way .rises .rising)
+        (rising-append z (makeRoom z t e .stores) _ e (room .rising)
+        (taken-rises z (makeRoom z t e .state) _ (room .pool) (room-there z t e (way .some-there) .has-free) writeKind (makeRoom z t e .state .next) b off bytes (omega arith) few))
 
-    append-rises : holds b (s .writes) ≡ true → pagesFor (s .sizes) (length bytes) ≤ blanks (s .sizes) d (cacheOf b (s .writes)) → Rising (s .sizes) d (appendLog (s .sizes) d b off bytes s .stores)
+    append-rises : holds b (s .writes) ≡ true → pagesFor (s .sizes) (length bytes) ≤ blanks (s .sizes) d (cacheOf b (s .writes)) → Rising (s .sizes) d (appendLog (s .sizes) b off bytes s d .stores)
     unfolding appendLog
     append-rises h fit =
         let w = cacheOf b (s .writes) in
         let w-in = writes-in s d pass b w (record { held = h; is = refl }) in
-        log-rises z w (z .p - blanks z d w) writeKind (epochOf z d w) b off bytes w-in (omega arith) (omega (arith, blanks-most z d w)) d (record {
+        log-rises z w (z .p - blanks z d w) writeKind (epochOf z d w) b off bytes (on-chip z w w-in) (omega arith) (omega (arith, blanks-most z d w)) d (record {
           lens = lens s d pass;
           used = λ i hi. used-start z d w (λ k hk. formed s d pass .pages-fit w k w-in hk) i (omega arith);
           rest = λ i lo hi. ap blank (blank-end z d w (λ k hk. formed s d pass .pages-fit w k w-in hk) i (omega arith) hi) ∙ blank-ff;
           others = λ x i ne hi. refl;
         })
 
-    write-rises : Rising (s .sizes) d (write (s .sizes) d b off bytes s .stores)
+    write-rises : Rising (s .sizes) d (write (s .sizes) b off bytes s d .stores)
     unfolding write fits
     write-rises = go (true-or-false (fits z d b (pagesFor z (length bytes)) s))
       where
-        go : (fits z d b (pagesFor z (length bytes)) s ≡ true) ⊎ (fits z d b (pagesFor z (length bytes)) s ≡ false) → Rising z d (write z d b off bytes s .stores)
+        go : (fits z d b (pagesFor z (length bytes)) s ≡ true) ⊎ (fits z d b (pagesFor z (length bytes)) s ≡ false) → Rising z d (write z b off bytes s d .stores)
         go (inl q) = rw q (append-rises (and-left (holds b (s .writes)) (leb (pagesFor z (length bytes)) (blanks z d (cacheOf b (s .writes)))) q)
             (leb-true _ _ (and-right (holds b (s .writes)) (leb (pagesFor z (length bytes)) (blanks z d (cacheOf b (s .writes)))) q)))
         go (inr q) = rw q anew-rises
@@ -247,6 +250,6 @@ unfolding ProgramsRise sizesOf planOf
 programs-rise (formatCall z) s d r = none-rise z (format z .stores) (format-none z) d
 programs-rise (readCall b off buffer) s d r = let pass = read-passed s d b off buffer r in read-rises s d (pass .0) b (pass .1 .b-in)
 programs-rise (writeCall b off bytes) s d r = let pass = write-passed s d b off bytes r in write-rises s d (pass .0) b off bytes (pass .1)
-programs-rise eraseCall s d r = none-rise (s .sizes) (eraseStep s .stores) (erase-none s) d
-programs-rise drainCall s d r = none-rise (s .sizes) (drain (s .sizes) d s .stores) (drain-none (s .sizes) d s) d
+programs-rise eraseCall s d r = none-rise (s .sizes) (eraseStep (s .sizes) s d .stores) (erase-none (s .sizes) s d) d
+programs-rise drainCall s d r = none-rise (s .sizes) (drain (s .sizes) s d .stores) (drain-none (s .sizes) d s) d
 programs-rise (recoverCall z) s d r = none-rise z (recover z d .stores) (recover-none z d) d

@@ -71,5 +71,5 @@ module _ (z : Sizes) where
   gone-fewer p-pos gs h d L c b i e = go (decLt 0 (times c gs))
     where
       go : Dec (0 < times c gs) → givesOf z (gone d gs) c b i ≡ none
-      go (yes u) = blank-gives z (gone d gs) c (gone-blank gs h d L c u 0 p-pos) b i
+      go (yes u) = blank-gives z (gone d gs) c p-pos (gone-blank gs h d L c u) b i
       go (no u) = gives-same z p-pos d (gone d gs) c (gone-same gs h d L c (omega arith)) b i ∙ e

@@ -11,12 +11,13 @@ use Rattle.lists.specs.Lists.{part}
 use Rattle.lists.proofs.Tests.{true-or-false}
 use Rattle.lists.proofs.Parts.{getD-part, length-part-fits}
 use Rattle.model.specs.declared.Sizes.{Sizes}
-use Rattle.model.specs.Sizes.{Device, bucketSize}
+use Rattle.model.specs.Sizes.{Device, bucketSize, body}
 use Rattle.model.specs.Stores.{bucketBytes, diskBytes}
 use Rattle.model.specs.Image.{merge}
 use Rattle.model.specs.State.{State, holds, cacheOf}
 use Rattle.model.specs.Steps.{baseBytes, merged}
 use Rattle.model.specs.Promise.{diskPlace}
+use Rattle.model.proofs.Limits.{on-chip}
 use Rattle.model.proofs.Views.{Lay, top, bare, SafeAt, copied, uncopied}
 use Rattle.model.proofs.Safe.{givesOf, found, view, plainAt, Safe}
 use Rattle.model.proofs.Frames.{Lengths, row-fits, length-bucket, length-disk}
@@ -48,15 +49,15 @@ module _ (z : Sizes) (s : State) (d : Device) (b : ℕ) where
 
 -- ---- lengths
 
-module _ (z : Sizes) (s-pos : 1 ≤ z .s) (d : Device) (L : Lengths z d) (F : Formed z d) (s : State) (reads-in : (b c : ℕ) → Maps (s .reads) b c → c < z .c)
-    (writes-in : (b c : ℕ) → Maps (s .writes) b c → c < z .c) (b : ℕ) (hb : b < z .b) where
+module _ (z : Sizes) (s-pos : 1 ≤ z .s) (d : Device) (L : Lengths z d) (F : Formed z d) (s : State) (reads-in : (b c : ℕ) → Maps (s .reads) b c → c < body z)
+    (writes-in : (b c : ℕ) → Maps (s .writes) b c → c < body z) (b : ℕ) (hb : b < z .b) where
   length-base : length (baseBytes z s d b) ≡ bucketSize z
   length-base = go (true-or-false (holds b (s .reads)))
     where
       go : (holds b (s .reads) ≡ true) ⊎ (holds b (s .reads) ≡ false) → length (baseBytes z s d b) ≡ bucketSize z
       go (inl h) =
           let m : Maps (s .reads) b (cacheOf b (s .reads)) = record { held = h; is = refl } in
-          ap length (base-copy z s d b (cacheOf b (s .reads)) m) ∙ length-bucket z d L (cacheOf b (s .reads)) (reads-in b (cacheOf b (s .reads)) m)
+          ap length (base-copy z s d b (cacheOf b (s .reads)) m) ∙ length-bucket z d L (cacheOf b (s .reads)) (on-chip z (cacheOf b (s .reads)) (reads-in b (cacheOf b (s .reads)) m))
       go (inr n) = ap length (base-disk z s d b n) ∙ length-disk z d L b hb
 
   merge-byte : (w : ℕ) → Maps (s .writes) b w → (i : ℕ) → getD (merged z s d b) i 0 ≡ orElse (found z d w (z .p) i) (getD (baseBytes z s d b) i 0)
@@ -76,10 +77,10 @@ module _ (z : Sizes) (s-pos : 1 ≤ z .s) (d : Device) (L : Lengths z d) (F : Fo
 -- ---- bytes
 
 module _ (z : Sizes) (p-pos : 1 ≤ z .p) (s-pos : 1 ≤ z .s) (plain : List ℕ) (s : State) (d : Device) (j : Inside z plain s d) (b : ℕ) (hb : b < z .b) where
-  reads-in : (b' c : ℕ) → Maps (s .reads) b' c → c < z .c
+  reads-in : (b' c : ℕ) → Maps (s .reads) b' c → c < body z
   reads-in b' c m = in-chip z plain s d j c (omega (arith, maps-times (s .reads) b' c m))
 
-  writes-in : (b' c : ℕ) → Maps (s .writes) b' c → c < z .c
+  writes-in : (b' c : ℕ) → Maps (s .writes) b' c → c < body z
   writes-in b' c m = in-chip z plain s d j c (omega (arith, maps-times (s .writes) b' c m))
 
   pub length-merged : length (merged z s d b) ≡ bucketSize z

@@ -15,10 +15,10 @@ use Rattle.model.specs.Stores.{applyAll}
 use Rattle.model.specs.Spare.{readKind, dirtyKind}
 use Rattle.model.specs.State.{State, moved, entry, holds, cacheOf, without}
 use Rattle.model.specs.Steps.{nothing, _then_, move, merged, copy}
-use Rattle.model.specs.Operations.{lastEpoch, touch, dropOldest, read}
+use Rattle.model.specs.Operations.{lastEpoch, touch, dropOldest, read, withoutOldest}
 use Rattle.model.specs.Calls.{readCall, planOf}
 use Rattle.model.specs.Promise.{feed}
-use Rattle.model.proofs.Bounds.{Bounds, bounds-of}
+use Rattle.model.proofs.Limits.{Limits, limits-of}
 use Rattle.model.proofs.Safe.{plainAt, Inv, Owed, Pays}
 use Rattle.model.proofs.Queues.{absent, maps-without}
 use Rattle.model.proofs.QueuesMerged.{length-merged, merged-plain}
@@ -29,7 +29,7 @@ use Rattle.model.proofs.StepsUnits.{oldest, oldest-good, touch-inside}
 use Rattle.model.proofs.StepsProgram.{copy-good}
 use Rattle.model.proofs.Calling.{read-passed, pays-good}
 
-module _ (z : Sizes) (B : Bounds z) (plain : List ℕ) (s : State) (d : Device) (j : Inside z plain s d) where
+module _ (z : Sizes) (B : Limits z) (plain : List ℕ) (s : State) (d : Device) (j : Inside z plain s d) where
   -- ---- after the least recent bucket left, if the queue was full
 
   record Left (t : State) : Type 0 where
@@ -37,11 +37,11 @@ module _ (z : Sizes) (B : Bounds z) (plain : List ℕ) (s : State) (d : Device) 
     fewer : length (t .reads) < z .r
     absent-still : (b : ℕ) → holds b (s .reads) ≡ false → holds b (t .reads) ≡ false
 
-  left : Left (dropOldest z d s .state)
-  unfolding dropOldest nothing moved
+  left : Left (dropOldest z s d .state)
+  unfolding dropOldest withoutOldest nothing moved
   left = go (true-or-false (ltb (length (s .reads)) (z .r)))
     where
-      go : (ltb (length (s .reads)) (z .r) ≡ true) ⊎ (ltb (length (s .reads)) (z .r) ≡ false) → Left (dropOldest z d s .state)
+      go : (ltb (length (s .reads)) (z .r) ≡ true) ⊎ (ltb (length (s .reads)) (z .r) ≡ false) → Left (dropOldest z s d .state)
       go (inl f) = rw f (record { next-same = refl; fewer = ltb-true (length (s .reads)) (z .r) f; absent-still = λ b n. n })
       go (inr f) =
           let o = oldest (s .reads) (j .reads .read-once) (omega (arith, ltb-false (length (s .reads)) (z .r) f, B .r-low)) in
@@ -67,27 +67,28 @@ module _ (z : Sizes) (B : Bounds z) (plain : List ℕ) (s : State) (d : Device) 
     plain-bytes : (i : ℕ) → i < bucketSize z → getD (merged z s d b) i 0 ≡ plainAt z plain b i
     plain-bytes i h = merged-plain z (B .p-low) (omega (arith, B .s-low)) plain s d j b hb i
 
-    both-hit : s .next < 4294967296 → holds b (s .reads) ≡ true → Good z plain (copy z dirtyKind b (merged z s d b) s) d
+    both-hit : s .next < 4294967296 → holds b (s .reads) ≡ true → Good z plain (copy z dirtyKind b (merged z s d b) s d) d
     both-hit room h = copy-good z B plain b dirtyKind hb (inr refl) bytes len plain-bytes s d j room (λ q. absurd (omega arith)) (inl h)
 
-    hit : holds b (s .reads) ≡ true → Good z plain (move (touch z d b) s) d
+    hit : holds b (s .reads) ≡ true → Good z plain (move (touch b) s d) d
     unfolding move
-    hit h = nothing-good z plain (touch z d b s) d (touch-inside z B plain s d j b (cacheOf b (s .reads)) (record { held = h; is = refl }))
+    hit h = nothing-good z plain (touch b s) d d (touch-inside z B plain s d j b (cacheOf b (s .reads)) (record { held = h; is = refl }))
 
-    miss : (k : ℕ) → (k ≡ readKind) ⊎ (k ≡ dirtyKind) → s .next < 4294967296 → holds b (s .reads) ≡ false → Good z plain (dropOldest z d s then copy z k b (merged z s d b)) d
+    miss : (k : ℕ) → (k ≡ readKind) ⊎ (k ≡ dirtyKind) → s .next < 4294967296 → holds b (s .reads) ≡ false
+        → Good z plain ((dropOldest z then copy z k b (merged z s d b)) s d) d
     miss k hk room n =
         let first = oldest-good z B plain s d j in
-        then-good z plain (dropOldest z d s) (copy z k b bytes) d first
-        (copy-good z B plain b k hb hk bytes len plain-bytes (dropOldest z d s .state) (applyAll z d (dropOldest z d s .stores)) (first .1) (rw (left .next-same) room)
+        then-good z plain (dropOldest z) (copy z k b bytes) s d (j .sizes-are) first
+        (copy-good z B plain b k hb hk bytes len plain-bytes (dropOldest z s d .state) (applyAll z d (dropOldest z s d .stores)) (first .1) (rw (left .next-same) room)
         (λ q. left .absent-still b n) (inr (left .fewer)))
 
-    pub read-good : Good z plain (read z d b s) d
+    pub read-good : Good z plain (read z b s d) d
     unfolding read
     read-good = go (true-or-false (ltb lastEpoch (s .next))) (true-or-false (holds b (s .reads))) (true-or-false (holds b (s .writes)))
       where
         go : (ltb lastEpoch (s .next) ≡ true) ⊎ (ltb lastEpoch (s .next) ≡ false) → (holds b (s .reads) ≡ true) ⊎ (holds b (s .reads) ≡ false)
-            → (holds b (s .writes) ≡ true) ⊎ (holds b (s .writes) ≡ false) → Good z plain (read z d b s) d
-        go (inl e) r w = rw e (nothing-good z plain s d j)
+            → (holds b (s .writes) ≡ true) ⊎ (holds b (s .writes) ≡ false) → Good z plain (read z b s d) d
+        go (inl e) r w = rw e (nothing-good z plain s d d j)
         go (inr e) (inl r) (inl w) = rw (e, r, w) (both-hit (omega (arith, ltb-false lastEpoch (s .next) e)) r)
         go (inr e) (inl r) (inr w) = rw (e, r, w) (hit r)
         go (inr e) (inr r) (inl w) = rw (e, r, w) (miss dirtyKind (inr refl) (omega (arith, ltb-false lastEpoch (s .next) e)) r)
@@ -102,4 +103,4 @@ read-pays z b off buffer s d plain fits i r =
     own f i' =
         let pass = read-passed s d b off buffer r in
         pays-good (s .sizes) (readCall b off buffer) s d plain refl
-        (read-good (s .sizes) (bounds-of (s .sizes) f) plain s d (inside (s .sizes) s d plain i' (pass .0 .runs)) b (pass .1 .b-in))
+        (read-good (s .sizes) (limits-of (s .sizes) f) plain s d (inside (s .sizes) s d plain i' (pass .0 .runs)) b (pass .1 .b-in))

@@ -10,14 +10,14 @@ use Rattle.lists.specs.Lists.{below, keep, times}
 use Rattle.lists.proofs.Tests.{true-or-false, or-left, or-right, or-second}
 use Rattle.lists.proofs.Orders.{kept-below, below-kept}
 use Rattle.model.specs.declared.Sizes.{Sizes}
-use Rattle.model.specs.Sizes.{Device, bucketSize}
+use Rattle.model.specs.Sizes.{Device, bucketSize, body}
 use Rattle.model.specs.Stores.{applyAll, bucketBytes}
 use Rattle.model.specs.Image.{epochOf, backOf, isDirty}
 use Rattle.model.specs.Recover.{flushed, recovered, unsaved, isRescued, rescued, rescueStores, recover}
 use Rattle.model.specs.Calls.{recoverCall, planOf}
 use Rattle.model.specs.Promise.{feed}
 use Rattle.model.proofs.Safe.{holdsOf, Sound, Along, Pays}
-use Rattle.model.proofs.Bounds.{Bounds, bounds-of}
+use Rattle.model.proofs.Limits.{Limits, limits-of, on-chip}
 use Rattle.model.proofs.Frames.{Lengths, length-bucket}
 use Rattle.model.proofs.Formed.{Formed, epoch-top}
 use Rattle.model.proofs.FormedKept.{chip-lengths, chip-formed}
@@ -34,7 +34,7 @@ use Rattle.model.proofs.RecoverBytes.{recovered-plain}
 use Rattle.model.proofs.RecoverQueues.{once-recovered, reads-recovered, writes-recovered, few-reads-recovered, few-writes-recovered, free-recovered}
 use Rattle.model.proofs.RecoverErase.{Rescued, ready-recovered}
 
-module _ (z : Sizes) (B : Bounds z) (d : Device) (plain : List ℕ) (sound : Sound z plain d) where
+module _ (z : Sizes) (B : Limits z) (d : Device) (plain : List ℕ) (sound : Sound z plain d) where
   L : Lengths z d
   L = chip-lengths z (sound .chip)
 
@@ -67,7 +67,7 @@ module _ (z : Sizes) (B : Bounds z) (d : Device) (plain : List ℕ) (sound : Sou
   rescued-merged b h = rw h
 
   -- the bytes of a dropped Dirty copy
-  rescued-own : (c : ℕ) → c < z .c → Chosen z d c → flushed z d (backOf z d c) ≡ false → rescued z d (backOf z d c) ≡ bucketBytes z d c
+  rescued-own : (c : ℕ) → c < body z → Chosen z d c → flushed z d (backOf z d c) ≡ false → rescued z d (backOf z d c) ≡ bucketBytes z d c
   unfolding rescued
   rescued-own c hc h f = rw (f, head-chosen z d F (backOf z d c) c hc h refl .1)
 
@@ -85,11 +85,11 @@ module _ (z : Sizes) (B : Bounds z) (d : Device) (plain : List ℕ) (sound : Sou
         allowed = λ e same. plain-bytes (λ i hi. ap (λ (l : List ℕ). getD l i 0) (rescued-merged b h) ∙ r .1 i);
       }
 
-  may-rescue : (c : ℕ) → c < z .c → Chosen z d c → isDirty z d c ≡ true → flushed z d (backOf z d c) ≡ false → MayWrite z B plain [] none-pending (rescued z d) d (backOf z d c)
+  may-rescue : (c : ℕ) → c < body z → Chosen z d c → isDirty z d c ≡ true → flushed z d (backOf z d c) ≡ false → MayWrite z B plain [] none-pending (rescued z d) d (backOf z d c)
   unfolding times
   may-rescue c hc h dirty f = record {
     place = back-below z d F (B .p-low) c hc (copy-used z d c (complete-copy z d c (h .is-complete)));
-    size = ap length (rescued-own c hc h f) ∙ length-bucket z d L c hc;
+    size = ap length (rescued-own c hc h f) ∙ length-bucket z d L c (on-chip z c hc);
     allowed = λ e same. dirty-copy c (λ t. omega arith) (holds-same z (B .p-low) d e c (same c) (backOf z d c) ∙ holds-from z d c (backOf z d c) hc (h .is-complete) refl)
         (isDirty-same z (B .p-low) d e c (same c) ∙ dirty) (λ x q. older e same x q);
   }
@@ -165,5 +165,5 @@ module _ (z : Sizes) (B : Bounds z) (d : Device) (plain : List ℕ) (sound : Sou
 pub recover-pays : (z : Sizes) → Pays z (recoverCall z)
 unfolding planOf feed
 recover-pays z s d plain fits i r =
-    let B = bounds-of z fits in
+    let B = limits-of z fits in
     pays-good z (recoverCall z) s d plain refl (run z B d plain (i .sound) .0, inside-recovered z B d plain (i .sound) (i .plain-length))

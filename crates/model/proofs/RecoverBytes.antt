@@ -14,10 +14,11 @@ use Rattle.lists.proofs.Tests.{and-left, and-right, and-true}
 use Rattle.lists.proofs.Counts.{times-self, times-other, times-cons, mem-times}
 use Rattle.lists.proofs.Orders.{Rising, rising-sort, times-sort}
 use Rattle.model.specs.declared.Sizes.{Sizes}
-use Rattle.model.specs.Sizes.{Device, bucketSize}
+use Rattle.model.specs.Sizes.{Device, bucketSize, body}
 use Rattle.model.specs.Stores.{bucketBytes, diskBytes}
 use Rattle.model.specs.Image.{epochOf, backOf, isWrite}
 use Rattle.model.specs.Recover.{buckets, byEpoch, isWriteOf, chosen, mergeAll, recovered}
+use Rattle.model.proofs.Limits.{on-chip}
 use Rattle.model.proofs.Views.{Lay, top, bare, SafeAt, copied, uncopied}
 use Rattle.model.proofs.Safe.{found, givesOf, holdsOf, view, plainAt, Safe}
 use Rattle.model.proofs.Frames.{Lengths, length-bucket, length-disk}
@@ -60,13 +61,13 @@ module _ (z : Sizes) (d : Device) (p-pos : 1 ≤ z .p) (s-pos : 1 ≤ z .s) (L :
     logs : List ℕ
     logs = byEpoch z d (buckets z d (isWriteOf z d b))
 
-    in-logs : (w : ℕ) → 1 ≤ times w logs → (isWrite z d w ≡ true) × (backOf z d w ≡ b) × (w < z .c)
+    in-logs : (w : ℕ) → 1 ≤ times w logs → (isWrite z d w ≡ true) × (backOf z d w ≡ b) × (w < body z)
     unfolding logs byEpoch isWriteOf
     in-logs w h =
         let r = in-buckets z d (isWriteOf z d b) w (omega (arith, times-sort (epochOf z d) w (buckets z d (isWriteOf z d b)))) in
         (and-left (isWrite z d w) _ (r .0), eqb-true _ _ (and-right (isWrite z d w) _ (r .0)), r .1)
 
-    from-logs : (w : ℕ) → w < z .c → isWrite z d w ≡ true → backOf z d w ≡ b → 1 ≤ times w logs
+    from-logs : (w : ℕ) → w < body z → isWrite z d w ≡ true → backOf z d w ≡ b → 1 ≤ times w logs
     unfolding logs byEpoch isWriteOf
     from-logs w hw q e =
         omega (arith, times-sort (epochOf z d) w (buckets z d (isWriteOf z d b)), from-buckets z d (isWriteOf z d b) w hw (and-true q (eq-eqb (backOf z d w) b e)))
@@ -75,7 +76,7 @@ module _ (z : Sizes) (d : Device) (p-pos : 1 ≤ z .p) (s-pos : 1 ≤ z .s) (L :
     unfolding logs byEpoch
     rising-logs = rising-sort (epochOf z d) (buckets z d (isWriteOf z d b))
 
-    in-chip : (w : ℕ) → List·Memᴰ w logs → w < z .c
+    in-chip : (w : ℕ) → List·Memᴰ w logs → w < body z
     in-chip w m = in-logs w (mem-times w logs m) .2
 
     gives-log : (w i : ℕ) → 1 ≤ times w logs → givesOf z d w b i ≡ found z d w (z .p) i
@@ -118,5 +119,5 @@ module _ (z : Sizes) (d : Device) (p-pos : 1 ≤ z .p) (s-pos : 1 ≤ z .s) (L :
         go (copied c n l _) =
             let r = newest-chosen z d p-pos d (same-refl z d) b c n in
             let h = head-chosen z d F b c (r .1) (r .0) (r .2) in
-            over (bucketBytes z d c) (rw (h .0, h .1)) (length-bucket z d L c (r .1)) l
+            over (bucketBytes z d c) (rw (h .0, h .1)) (length-bucket z d L c (on-chip z c (r .1))) l
         go (uncopied n l) = over (diskBytes z d b) (rw (none-chosen n)) (length-disk z d L b hb) l

@@ -13,10 +13,11 @@ use Rattle.lists.proofs.Tests.{true-or-false}
 use Rattle.lists.proofs.Counts.{times-append}
 use Rattle.lists.proofs.Orders.{Pairwise, pairwise-cut}
 use Rattle.model.specs.declared.Sizes.{Sizes}
-use Rattle.model.specs.Sizes.{Device}
+use Rattle.model.specs.Sizes.{Device, body}
 use Rattle.model.specs.Stores.{bucketBytes, diskBytes}
 use Rattle.model.specs.Image.{epochOf, backOf, isWrite, isDirty, complete}
 use Rattle.model.specs.Recover.{isChosen, flushed, isDroppedCopy, isOldCopy, recover}
+use Rattle.model.proofs.Limits.{on-chip}
 use Rattle.model.proofs.Views.{Lay, SafeAt, copied, uncopied, Newest, lay-base}
 use Rattle.model.proofs.Safe.{givesOf, holdsOf, view, plainAt, Safe, Ready}
 use Rattle.model.proofs.Frames.{Lengths}
@@ -40,7 +41,7 @@ module _ (z : Sizes) (d : Device) (F : Formed z d) where
     pub alike : (c : ℕ) → Same z d e c
     pub safe : Safe z plain e
     pub merged-bytes : (b : ℕ) → flushed z d b ≡ true → (i : ℕ) → getD (diskBytes z e b) i 0 ≡ plainAt z plain b i
-    pub own-bytes : (c : ℕ) → c < z .c → isDroppedCopy z d c ≡ true → isDirty z d c ≡ true → flushed z d (backOf z d c) ≡ false
+    pub own-bytes : (c : ℕ) → c < body z → isDroppedCopy z d c ≡ true → isDirty z d c ≡ true → flushed z d (backOf z d c) ≡ false
         → (i : ℕ) → getD (diskBytes z e (backOf z d c)) i 0 ≡ getD (bucketBytes z d c) i 0
 
   module _ (p-pos : 1 ≤ z .p) (plain : List ℕ) (e : Device) (kept : Rescued plain e) (done rest : List ℕ) (parts : recover z d .state .gc ≡ done ++ rest) where
@@ -48,7 +49,7 @@ module _ (z : Sizes) (d : Device) (F : Formed z d) where
     in-done x h = retired z d x (omega (arith, ap (times x) parts, times-append x done rest))
 
     below-done : Below z done
-    below-done x h = retired-below z d x (in-done x h)
+    below-done x h = on-chip z x (retired-below z d x (in-done x h))
 
     precedes : (x y : ℕ) → 1 ≤ times x done → 1 ≤ times y rest → Precedes z d x y
     precedes x y p q = pairwise-cut (Precedes z d) done rest (subst (λ (l : List ℕ). Pairwise (Precedes z d) l) parts (ordered z d)) x y p q
@@ -61,29 +62,29 @@ module _ (z : Sizes) (d : Device) (F : Formed z d) where
     without = without-gone z p-pos e (kept .lens) done below-done
 
     -- who gives to b and who is a copy of b
-    giver : (x b i v : ℕ) → givesOf z e x b i ≡ some v → (x < z .c) × (isWrite z d x ≡ true) × (backOf z d x ≡ b)
+    giver : (x b i v : ℕ) → givesOf z e x b i ≡ some v → (x < body z) × (isWrite z d x ≡ true) × (backOf z d x ≡ b)
     giver x b i v h =
         let g = gives-write z e x b i v h in
         (g .0, sym (isWrite-same z p-pos d e x (kept .alike x)) ∙ g .1, sym (backOf-same z p-pos d e x (kept .alike x)) ∙ g .2)
 
-    holder : (x b : ℕ) → holdsOf z e x b ≡ true → (x < z .c) × (complete z d x ≡ true) × (backOf z d x ≡ b)
+    holder : (x b : ℕ) → holdsOf z e x b ≡ true → (x < body z) × (complete z d x ≡ true) × (backOf z d x ≡ b)
     holder x b h = holds-parts z d x b (sym (holds-same z p-pos d e x (kept .alike x) b) ∙ h)
 
-    the-copy : (b c : ℕ) → Newest (view z e) b c → Chosen z d c × (c < z .c) × (backOf z d c ≡ b)
+    the-copy : (b c : ℕ) → Newest (view z e) b c → Chosen z d c × (c < body z) × (backOf z d c ≡ b)
     the-copy b c n = newest-chosen z d p-pos e (kept .alike) b c n
 
     module _ (b : ℕ) where
-      log-free : ((x : ℕ) → x < z .c → isWrite z d x ≡ true → backOf z d x ≡ b → 1 ≤ times x done → ⊥) → (x i : ℕ) → 1 ≤ times x done → givesOf z e x b i ≡ none
+      log-free : ((x : ℕ) → x < body z → isWrite z d x ≡ true → backOf z d x ≡ b → 1 ≤ times x done → ⊥) → (x i : ℕ) → 1 ≤ times x done → givesOf z e x b i ≡ none
       log-free h x i t = none-unless (λ v q. let g = giver x b i v q in h x (g .0) (g .1) (g .2) t)
 
       -- once b's copy is gone, all its copies are
       copies-gone : (c : ℕ) → Newest (view z e) b c → 1 ≤ times c done → (x : ℕ) → holdsOf z e x b ≡ true → 1 ≤ times x done
       copies-gone c n t x h = go (decLt 0 (times x done)) (true-or-false (isChosen z d x))
         where
-          r : Chosen z d c × (c < z .c) × (backOf z d c ≡ b)
+          r : Chosen z d c × (c < body z) × (backOf z d c ≡ b)
           r = the-copy b c n
 
-          q : (x < z .c) × (complete z d x ≡ true) × (backOf z d x ≡ b)
+          q : (x < body z) × (complete z d x ≡ true) × (backOf z d x ≡ b)
           q = holder x b h
 
           go : Dec (0 < times x done) → (isChosen z d x ≡ true) ⊎ (isChosen z d x ≡ false) → 1 ≤ times x done
@@ -100,7 +101,7 @@ module _ (z : Sizes) (d : Device) (F : Formed z d) where
           h (rw (← chosen-one z d F x c (q .1) (r .1) (q .0) (r .0) (q .2 ∙ sym (r .2))) t)
 
       -- dropped Write buckets go after the copy
-      logs-later : flushed z d b ≡ true → (c : ℕ) → Newest (view z e) b c → ¬ (1 ≤ times c done) → (x : ℕ) → x < z .c → isWrite z d x ≡ true → backOf z d x ≡ b → 1 ≤ times x done → ⊥
+      logs-later : flushed z d b ≡ true → (c : ℕ) → Newest (view z e) b c → ¬ (1 ≤ times c done) → (x : ℕ) → x < body z → isWrite z d x ≡ true → backOf z d x ≡ b → 1 ≤ times x done → ⊥
       logs-later f c n h x hx q k t =
           let r = the-copy b c n in
           let drops : isDroppedCopy z d c ≡ true = flush-drops-copy z d c (chosen-test z d c (r .0)) (rw (r .2) f) in
@@ -133,7 +134,7 @@ module _ (z : Sizes) (d : Device) (F : Formed z d) where
       safe-unflushed : flushed z d b ≡ false → SafeAt (view z e) b (plainAt z plain b) → SafeAt (view z (gone z e done)) b (plainAt z plain b)
       safe-unflushed f s = go s
         where
-          no-log : (x : ℕ) → x < z .c → isWrite z d x ≡ true → backOf z d x ≡ b → 1 ≤ times x done → ⊥
+          no-log : (x : ℕ) → x < body z → isWrite z d x ≡ true → backOf z d x ≡ b → 1 ≤ times x done → ⊥
           no-log x hx q k t = pick (in-done x t)
             where
               pick : Retired z d x → ⊥
@@ -145,7 +146,7 @@ module _ (z : Sizes) (d : Device) (F : Formed z d) where
           go (uncopied n l) = retire-others without b (plainAt z plain b) (log-free no-log) (λ c m. absurd (true≢false (sym (m .0) ∙ n c))) s
           go (copied c n l clean) = pick (decLt 0 (times c done))
             where
-              r : Chosen z d c × (c < z .c) × (backOf z d c ≡ b)
+              r : Chosen z d c × (c < body z) × (backOf z d c ≡ b)
               r = the-copy b c n
 
               drops : Retired z d c → isDroppedCopy z d c ≡ true

@@ -9,18 +9,18 @@ use Rattle.lists.specs.Lists.{if_then_else_, times}
 use Rattle.lists.proofs.Counts.{times-append}
 use Rattle.lists.proofs.Orders.{Pairwise, pairwise-append, pairwise-any, pairwise-map, rising-sort, times-sort}
 use Rattle.model.specs.declared.Sizes.{Sizes}
-use Rattle.model.specs.Sizes.{Device}
+use Rattle.model.specs.Sizes.{Device, body}
 use Rattle.model.specs.Image.{epochOf, isWrite}
 use Rattle.model.specs.Recover.{buckets, byEpoch, isChosen, isDroppedWrite, isDroppedCopy, isOldCopy, recover}
 use Rattle.model.proofs.BucketKinds.{complete-copy, copy-no-write}
 use Rattle.model.proofs.RecoverChoice.{in-buckets, from-buckets, Chosen, chosen-test, old-is, dropped-copy, dropped-write}
 
 module _ (z : Sizes) (d : Device) where
-  in-class : (t : ℕ → Bool) (x : ℕ) → 1 ≤ times x (byEpoch z d (buckets z d t)) → (t x ≡ true) × (x < z .c)
+  in-class : (t : ℕ → Bool) (x : ℕ) → 1 ≤ times x (byEpoch z d (buckets z d t)) → (t x ≡ true) × (x < body z)
   unfolding byEpoch
   in-class t x h = in-buckets z d t x (omega (arith, times-sort (epochOf z d) x (buckets z d t)))
 
-  from-class : (t : ℕ → Bool) (x : ℕ) → x < z .c → t x ≡ true → 1 ≤ times x (byEpoch z d (buckets z d t))
+  from-class : (t : ℕ → Bool) (x : ℕ) → x < body z → t x ≡ true → 1 ≤ times x (byEpoch z d (buckets z d t))
   unfolding byEpoch
   from-class t x h e = omega (arith, times-sort (epochOf z d) x (buckets z d t), from-buckets z d t x h e)
 
@@ -28,9 +28,9 @@ module _ (z : Sizes) (d : Device) where
 
   -- superseded and incomplete copies, dropped copies, dropped Write buckets
   pub data Retired (x : ℕ) : Type 0 where
-    old : x < z .c → isOldCopy z d x ≡ true → Retired x
-    copy : x < z .c → isDroppedCopy z d x ≡ true → Retired x
-    log : x < z .c → isDroppedWrite z d x ≡ true → Retired x
+    old : x < body z → isOldCopy z d x ≡ true → Retired x
+    copy : x < body z → isDroppedCopy z d x ≡ true → Retired x
+    log : x < body z → isDroppedWrite z d x ≡ true → Retired x
 
   abbrev olds : List ℕ
   olds = byEpoch z d (buckets z d (isOldCopy z d))
@@ -58,7 +58,7 @@ module _ (z : Sizes) (d : Device) where
   in-gc x (copy h e) = omega (arith, times-gc x, from-class (isDroppedCopy z d) x h e)
   in-gc x (log h e) = omega (arith, times-gc x, from-class (isDroppedWrite z d) x h e)
 
-  pub retired-below : (x : ℕ) → Retired x → x < z .c
+  pub retired-below : (x : ℕ) → Retired x → x < body z
   retired-below x (old h e) = h
   retired-below x (copy h e) = h
   retired-below x (log h e) = h

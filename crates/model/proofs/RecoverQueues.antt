@@ -9,22 +9,21 @@ use native.Mathlib.Omega.{arith}
 use native.Mathlib.Decide.{decLt}
 use lib.ListN.{length, length-map}
 use lib.Dec.{ltb, eqb}
-use borrow.Author.Tests.{lt-ltb, le-ltb, ltb-true, le-leb, not-true, not-false}
-use Rattle.lists.specs.Lists.{if_then_else_, all, keep, member, times, distinct, ff}
+use borrow.Author.Tests.{lt-ltb, le-ltb, ltb-true, le-leb, not-true}
+use Rattle.lists.specs.Lists.{if_then_else_, all, keep, member, times, distinct}
 use Rattle.lists.proofs.Tests.{and-left, and-true}
 use Rattle.lists.proofs.Rows.{count-le}
 use Rattle.lists.proofs.Counts.{times-append, member-times, times-cons, times-self}
 use Rattle.lists.proofs.Orders.{times-keep, member-in, times-sort, length-sort, distinct-map, length-newest}
-use Rattle.lists.proofs.Sames.{same-equal}
 use Rattle.model.specs.declared.Sizes.{Sizes}
 use Rattle.model.specs.declared.Entry.{Entry}
-use Rattle.model.specs.Sizes.{Device}
-use Rattle.model.specs.Stores.{tagOf}
+use Rattle.model.specs.Sizes.{Device, body}
 use Rattle.model.specs.Spare.{blank, writeKind, kind}
-use Rattle.model.specs.Image.{used, epochOf, backOf, isWrite, isCopy, pageBlank, blanks}
+use Rattle.model.specs.Image.{used, epochOf, backOf, isWrite, isCopy, pageBlank, blanks, headTag}
 use Rattle.model.specs.State.{entry, holds, cacheBucket, backBucket, caches, backs}
 use Rattle.model.specs.Recover.{buckets, byEpoch, isNewer, amongNewest, newest, isChosen, isOnly, keptWrites, isDroppedWrite, isRemaining, keptCopies, isDroppedCopy, isOldCopy, isFree, keptRead, keptWrite, recover}
-use Rattle.model.proofs.Formed.{Formed, blank-after}
+use Rattle.model.proofs.Heads.{Blank}
+use Rattle.model.proofs.Formed.{Formed, unused-blank}
 use Rattle.model.proofs.Buckets.{gives-write, holds-parts, holds-from}
 use Rattle.model.proofs.Retire.{none-unless}
 use Rattle.model.proofs.Queues.{Maps, maps-first}
@@ -152,10 +151,10 @@ module _ (z : Sizes) (d : Device) where
   kept-write-once c = kept-once (z .w) (isOnly z d) c
 
   -- of a bucket of the chip
-  in-class : (t : ℕ → Bool) (c : ℕ) → c < z .c → times c (buckets z d t) ≡ (if t c then 1 else 0)
-  in-class t c h = times-buckets z d t c ∙ rw (lt-ltb c (z .c) h)
+  in-class : (t : ℕ → Bool) (c : ℕ) → c < body z → times c (buckets z d t) ≡ (if t c then 1 else 0)
+  in-class t c h = times-buckets z d t c ∙ rw (lt-ltb c (body z) h)
 
-  once-inside : (c : ℕ) → c < z .c → recoveredPlaces c ≡ 1
+  once-inside : (c : ℕ) → c < body z → recoveredPlaces c ≡ 1
   unfolding isOldCopy isDroppedCopy isDroppedWrite isFree isCopy isWrite
   once-inside c h =
       rw (
@@ -166,24 +165,24 @@ module _ (z : Sizes) (d : Device) where
         in-class (isDroppedWrite z d) c h,
         in-class (isFree z d) c h,
       )
-      (classes (used z d c) (eqb (kind (tagOf z d c 0)) writeKind) (isChosen z d c) (member c (keptCopies z d)) (member c (keptWrites z d))
+      (classes (used z d c) (eqb (kind (headTag z d c)) writeKind) (isChosen z d c) (member c (keptCopies z d)) (member c (keptWrites z d))
       (λ q. complete-copy z d c (chosen-of z d c q .is-complete))
       (λ q. chosen-test z d c (kept-copy z d c (member-in c (keptCopies z d) q) .0))
       (λ q. kept-write z d c (member-in c (keptWrites z d) q) .0 .is-write))
 
-  pub once-recovered : (c : ℕ) → places (recover z d .state) c ≡ (if ltb c (z .c) then 1 else 0)
-  once-recovered c = places-recovered c ∙ go (decLt c (z .c))
+  pub once-recovered : (c : ℕ) → places (recover z d .state) c ≡ (if ltb c (body z) then 1 else 0)
+  once-recovered c = places-recovered c ∙ go (decLt c (body z))
     where
-      none : (l : List ℕ) → ¬ (c < z .c) → (1 ≤ times c l → c < z .c) → times c l ≡ 0
+      none : (l : List ℕ) → ¬ (c < body z) → (1 ≤ times c l → c < body z) → times c l ≡ 0
       none l out h = pick (decLt 0 (times c l))
         where
           pick : Dec (0 < times c l) → times c l ≡ 0
           pick (yes u) = absurd (out (h u))
           pick (no u) = omega arith
 
-      go : Dec (c < z .c) → recoveredPlaces c ≡ (if ltb c (z .c) then 1 else 0)
-      go (yes u) = rw (lt-ltb c (z .c) u) (once-inside c u)
-      go (no u) = rw (le-ltb c (z .c) (omega arith)) (omega (
+      go : Dec (c < body z) → recoveredPlaces c ≡ (if ltb c (body z) then 1 else 0)
+      go (yes u) = rw (lt-ltb c (body z) u) (once-inside c u)
+      go (no u) = rw (le-ltb c (body z) (omega arith)) (omega (
         arith,
         none (keptCopies z d) u (λ q. kept-copy z d c q .1),
         none (keptWrites z d) u (λ q. kept-write z d c q .1),
@@ -235,7 +234,7 @@ module _ (z : Sizes) (d : Device) where
 
     -- ---- lengths
 
-    few : (n : ℕ) (t : ℕ → Bool) → ((c : ℕ) → 1 ≤ times c (buckets z d t) → (c < z .c) × (used z d c ≡ true)) → length (newest z d n (buckets z d t)) ≤ n
+    few : (n : ℕ) (t : ℕ → Bool) → ((c : ℕ) → 1 ≤ times c (buckets z d t) → (c < body z) × (used z d c ≡ true)) → length (newest z d n (buckets z d t)) ≤ n
     unfolding newest amongNewest isNewer
     few n t ok = length-newest (epochOf z d) (amongNewest z d n (buckets z d t)) n (buckets z d t) (once-buckets z d t)
         (λ c e p q. let k = ok c p in let l = ok e q in F .epochs-differ c e (k .0) (l .0) (k .1) (l .1))
@@ -255,8 +254,8 @@ module _ (z : Sizes) (d : Device) where
 
     -- ---- free buckets are blank
 
-    pub free-recovered : (c : ℕ) → 1 ≤ times c (recover z d .state .free) → (k : ℕ) → k < z .p → tagOf z d c k ≡ ff 16
-    unfolding recover isFree used blank
-    free-recovered c h k hk =
+    pub free-recovered : (c : ℕ) → 1 ≤ times c (recover z d .state .free) → Blank z d c
+    unfolding recover isFree
+    free-recovered c h =
         let r = in-buckets z d (isFree z d) c h in
-        same-equal (tagOf z d c k) (ff 16) (blank-after z d c (λ j hj. F .pages-fit c j (r .1) hj) 0 k (omega arith) hk (not-false _ (not-true _ (r .0))))
+        unused-blank z d c (λ j hj. F .pages-fit c j (r .1) hj) (not-true _ (r .0))

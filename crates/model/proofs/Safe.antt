@@ -9,8 +9,8 @@ use lib.ListN.{length, take, getD}
 use lib.Dec.{leb, ltb, eqb}
 use Rattle.lists.specs.Lists.{if_then_else_, part}
 use Rattle.model.specs.declared.Sizes.{Sizes}
-use Rattle.model.specs.declared.Answer.the-variants.{Done}
-use Rattle.model.specs.Sizes.{Device, limits, lengths, bucketSize}
+use Rattle.model.specs.declared.Answer.the-variants.{Done, Cut}
+use Rattle.model.specs.Sizes.{Device, limits, lengths, bucketSize, body}
 use Rattle.model.specs.Stores.{Store, erase, apply, applyAll, tagOf, bucketBytes, diskBytes}
 use Rattle.model.specs.Spare.{offset, extent}
 use Rattle.model.specs.Image.{epochOf, wellFormed, backOf, isWrite, isDirty, complete, endsLog, logBytes}
@@ -33,11 +33,11 @@ module _ (z : Sizes) where
 
   -- what the cache bucket c, as a Write bucket of b, gives byte i of b
   unfoldable pub givesOf : Device → ℕ → ℕ → ℕ → Option ℕ
-  givesOf d c b i = if ltb c (z .c) && (isWrite z d c && eqb (backOf z d c) b) then found d c (z .p) i else none
+  givesOf d c b i = if ltb c (body z) && (isWrite z d c && eqb (backOf z d c) b) then found d c (z .p) i else none
 
   -- c is a complete copy of b
   unfoldable pub holdsOf : Device → ℕ → ℕ → Bool
-  holdsOf d c b = ltb c (z .c) && (complete z d c && eqb (backOf z d c) b)
+  holdsOf d c b = ltb c (body z) && (complete z d c && eqb (backOf z d c) b)
 
   abbrev pub view : Device → View
   view d = record {
@@ -95,9 +95,9 @@ module _ (z : Sizes) where
     pub sound : Sound plain d
     pub live : s .running ≡ true → Live s d plain
 
-  -- what a call that is not refused owes: each cut leaves the plain disk as it was, the whole plan moves it on, and a read gives its bytes
+  -- what a call that is not refused owes, to the plain disk as its answer feeds it: each cut, and the whole plan
   pub record Owed (k : Call) (s : State) (d : Device) (plain : List ℕ) : Type 0 where
-    pub cuts : (n : ℕ) → n < length (planOf k s d .stores) → Sound plain (applyAll z d (take n (planOf k s d .stores)))
+    pub cuts : (n : ℕ) → n < length (planOf k s d .stores) → Sound (feed z k Cut plain) (applyAll z d (take n (planOf k s d .stores)))
     pub whole : Inv (planOf k s d .state) (applyAll z d (planOf k s d .stores)) (feed z k Done plain)
 
   abbrev pub Pays : Call → Type 0

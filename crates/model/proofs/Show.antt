@@ -7,38 +7,39 @@ use native.Mathlib.Omega.{arith}
 use Rattle.model.specs.declared.Sizes.{Sizes}
 use Rattle.model.specs.Sizes.{Device}
 use Rattle.model.specs.Stores.{program, erase, unit, apply, tagOf, bucketBytes}
-use Rattle.model.specs.Image.{pageFits, used, epochOf, backOf, isWrite, isCopy, isDirty, complete, endsLog, logBytes}
+use Rattle.model.specs.Image.{pageFits, used, epochOf, backOf, isWrite, isCopy, isDirty, complete, endsLog, logBytes, headTag}
 use Rattle.model.proofs.Views.{Quiet, same, Kept, alike}
 use Rattle.model.proofs.Safe.{covers, found, givesOf, holdsOf, view}
 use Rattle.model.proofs.Frames.{Lengths, Fits, tag-other-bucket, bytes-other-bucket, tag-kept, bytes-kept, tag-unit, bytes-unit}
+use Rattle.model.proofs.Heads.{head-same}
 
 module _ (z : Sizes) where
-  -- ---- what the first page says of its bucket
+  -- ---- what the head says of its bucket
 
-  module _ (d e : Device) (c : ℕ) (first : tagOf z e c 0 ≡ tagOf z d c 0) where
+  module _ (d e : Device) (c : ℕ) (heads : headTag z e c ≡ headTag z d c) where
     pub used-by : used z e c ≡ used z d c
     unfolding used
-    used-by = rw first
+    used-by = rw heads
 
     pub epoch-by : epochOf z e c ≡ epochOf z d c
     unfolding epochOf
-    epoch-by = rw (used-by, first)
+    epoch-by = rw (used-by, heads)
 
     pub back-by : backOf z e c ≡ backOf z d c
     unfolding backOf
-    back-by = rw first
+    back-by = rw heads
 
     pub write-by : isWrite z e c ≡ isWrite z d c
     unfolding isWrite
-    write-by = rw (used-by, first)
+    write-by = rw (used-by, heads)
 
     pub copy-by : isCopy z e c ≡ isCopy z d c
     unfolding isCopy
-    copy-by = rw (used-by, first)
+    copy-by = rw (used-by, heads)
 
     pub dirty-by : isDirty z e c ≡ isDirty z d c
     unfolding isDirty
-    dirty-by = rw first
+    dirty-by = rw heads
 
   -- ---- buckets shown alike
 
@@ -54,26 +55,26 @@ module _ (z : Sizes) where
   same-trans s t = record { tags-same = λ k hk. t .tags-same k hk ∙ s .tags-same k hk; bytes-same = t .bytes-same ∙ s .bytes-same }
 
   module _ (p-pos : 1 ≤ z .p) (d e : Device) (c : ℕ) (s : Same d e c) where
-    first-page : tagOf z e c 0 ≡ tagOf z d c 0
-    first-page = s .tags-same 0 p-pos
+    heads-same : headTag z e c ≡ headTag z d c
+    heads-same = head-same z p-pos d e c (s .tags-same)
 
     pub used-same : used z e c ≡ used z d c
-    used-same = used-by d e c first-page
+    used-same = used-by d e c heads-same
 
     pub epochOf-same : epochOf z e c ≡ epochOf z d c
-    epochOf-same = epoch-by d e c first-page
+    epochOf-same = epoch-by d e c heads-same
 
     pub backOf-same : backOf z e c ≡ backOf z d c
-    backOf-same = back-by d e c first-page
+    backOf-same = back-by d e c heads-same
 
     pub isWrite-same : isWrite z e c ≡ isWrite z d c
-    isWrite-same = write-by d e c first-page
+    isWrite-same = write-by d e c heads-same
 
     pub isCopy-same : isCopy z e c ≡ isCopy z d c
-    isCopy-same = copy-by d e c first-page
+    isCopy-same = copy-by d e c heads-same
 
     pub isDirty-same : isDirty z e c ≡ isDirty z d c
-    isDirty-same = dirty-by d e c first-page
+    isDirty-same = dirty-by d e c heads-same
 
     pub complete-same : complete z e c ≡ complete z d c
     unfolding complete
@@ -81,7 +82,7 @@ module _ (z : Sizes) where
 
     pub pageFits-same : (k : ℕ) → k < z .p → pageFits z e c k ≡ pageFits z d c k
     unfolding pageFits
-    pageFits-same zero h = rw first-page
+    pageFits-same zero h = let u = s .tags-same 0 h in rw u
     pageFits-same (suc k) h = let u = s .tags-same k (omega arith) in let v = s .tags-same (suc k) h in rw (u, v)
 
     -- ---- logs

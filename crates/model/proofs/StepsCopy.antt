@@ -12,11 +12,12 @@ use Rattle.lists.specs.Lists.{head, empty, times}
 use Rattle.lists.proofs.Tests.{true-or-false}
 use Rattle.lists.proofs.Counts.{times-only, times-self, times-append, times-rest}
 use Rattle.model.specs.declared.Sizes.{Sizes}
-use Rattle.model.specs.Sizes.{Device}
+use Rattle.model.specs.Sizes.{Device, body}
 use Rattle.model.specs.Stores.{erase, apply}
 use Rattle.model.specs.Image.{epochOf, backOf, complete}
 use Rattle.model.specs.State.{State, moved, entry, holds, cacheOf, cachesOf, without, caches}
 use Rattle.model.specs.Steps.{taken, takeCopy}
+use Rattle.model.proofs.Limits.{on-chip}
 use Rattle.model.proofs.Views.{SafeAt, Newest}
 use Rattle.model.proofs.Retire.{retire-others}
 use Rattle.model.proofs.Safe.{view, givesOf, holdsOf, plainAt, Safe, Ready}
@@ -40,7 +41,7 @@ module _ (z : Sizes) (p-pos : 1 ≤ z .p) (plain : List ℕ) (s : State) (d e : 
   count : (x : ℕ) → times x (s .free) ≡ times x (head (s .free) ∷ []) + times x (drop 1 (s .free))
   count x = times-rest x (s .free) has-free
 
-  c-in : head (s .free) < z .c
+  c-in : head (s .free) < body z
   c-in = in-chip z plain s d j c (omega (arith, count c, times-self c))
 
   -- a bucket that stands elsewhere
@@ -50,10 +51,10 @@ module _ (z : Sizes) (p-pos : 1 ≤ z .p) (plain : List ℕ) (s : State) (d e : 
   read-still : (b' x : ℕ) → Maps (s .reads) b' x → Same z d e x
   read-still b' x m = run .still x (not-c x (omega (arith, maps-times (s .reads) b' x m)))
 
-  c-parts : (head (s .free) < z .c) × (complete z e (head (s .free)) ≡ true) × (backOf z e (head (s .free)) ≡ b)
+  c-parts : (head (s .free) < body z) × (complete z e (head (s .free)) ≡ true) × (backOf z e (head (s .free)) ≡ b)
   c-parts = holds-parts z e c b (run .held)
 
-  ages : (x : ℕ) → x < z .c → epochOf z e x ≤ s .next
+  ages : (x : ℕ) → x < body z → epochOf z e x ≤ s .next
   ages x hx = go (ℕ-discrete x c)
     where
       go : Dec (x ≡ c) → epochOf z e x ≤ s .next
@@ -78,12 +79,12 @@ module _ (z : Sizes) (p-pos : 1 ≤ z .p) (plain : List ℕ) (s : State) (d e : 
     c-same : Same z e (gone z e (s .gc)) (head (s .free))
     c-same = to-swept c (omega (arith, one-place z plain s d j c, count c, times-self c))
 
-    r-parts : (r < z .c) × (complete z d r ≡ true) × (backOf z d r ≡ b)
+    r-parts : (r < body z) × (complete z d r ≡ true) × (backOf z d r ≡ b)
     r-parts = holds-parts z d r b (j .reads .copies b r m)
 
     old-safe : Safe z plain (apply z (gone z e (s .gc)) (erase r))
     unfolding Safe
-    old-safe = safe-erased z p-pos (gone z e (s .gc)) L r (r-parts .0) plain b (backOf-same z p-pos d (gone z e (s .gc)) r r-same ∙ r-parts .2) safe own
+    old-safe = safe-erased z p-pos (gone z e (s .gc)) L r (on-chip z r (r-parts .0)) plain b (backOf-same z p-pos d (gone z e (s .gc)) r r-same ∙ r-parts .2) safe own
       where
         L : Lengths z (gone z e (s .gc))
         L = gone-lengths z (s .gc) (gc-below z plain s d j) e e-lens
@@ -99,7 +100,7 @@ module _ (z : Sizes) (p-pos : 1 ≤ z .p) (plain : List ℕ) (s : State) (d e : 
             omega (arith, n .1 c held, j .next-above r (r-parts .0))
 
         own : SafeAt (view z (apply z (gone z e (s .gc)) (erase r))) b (plainAt z plain b)
-        own = retire-others (erased-view z p-pos (gone z e (s .gc)) L r (r-parts .0)) b (plainAt z plain b)
+        own = retire-others (erased-view z p-pos (gone z e (s .gc)) L r (on-chip z r (r-parts .0))) b (plainAt z plain b)
             (λ x i q. rw (times-only x r q) (copy-silent z (gone z e (s .gc)) r (complete-same z p-pos d (gone z e (s .gc)) r r-same ∙ r-parts .1) b i)) (λ x n q. older x n (times-only x r q)) (safe b)
 
   ready-joined : Ready z plain (s .gc ++ cachesOf b (s .reads)) e

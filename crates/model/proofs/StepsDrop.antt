@@ -15,22 +15,23 @@ use Rattle.lists.proofs.Tests.{true-or-false}
 use Rattle.lists.proofs.Counts.{times-only, times-self, times-append}
 use Rattle.model.specs.declared.Sizes.{Sizes}
 use Rattle.model.specs.declared.Entry.{Entry}
-use Rattle.model.specs.Sizes.{Device}
+use Rattle.model.specs.Sizes.{Device, body}
 use Rattle.model.specs.Stores.{erase, apply, bucketBytes, diskBytes}
 use Rattle.model.specs.Image.{epochOf, backOf, isDirty, complete}
 use Rattle.model.specs.State.{State, moved, holds, cachesOf, without, caches}
 use Rattle.model.specs.Steps.{dropWrite}
+use Rattle.model.proofs.Limits.{on-chip}
 use Rattle.model.proofs.Views.{Lay, SafeAt, safe-drop}
 use Rattle.model.proofs.Retire.{retire-copies}
 use Rattle.model.proofs.Safe.{view, givesOf, holdsOf, plainAt, Chip, Ready}
-use Rattle.model.proofs.Frames.{Lengths, disk-erased}
+use Rattle.model.proofs.Frames.{Lengths, disk-erased, tag-erased}
 use Rattle.model.proofs.Show.{Same, same-trans, gives-same, holds-same, epochOf-same, backOf-same, isDirty-same, complete-same}
 use Rattle.model.proofs.Buckets.{blank-gives, blank-holds, holds-parts, copy-silent}
 use Rattle.model.proofs.Queues.{Maps, absent, cachesOf-one, times-without, length-without, maps-times}
 use Rattle.model.proofs.QueuesShown.{Reads, Writes, reads-kept, writes-kept, reads-without, writes-without}
 use Rattle.model.proofs.QueuesErased.{gone, gone-disk}
 use Rattle.model.proofs.Inside.{Inside, lens, in-chip, one-place, gc-below, swept-lengths, swept-safe, read-same, write-same, who-gives, who-holds}
-use Rattle.model.proofs.StepsJoin.{same-left, erased-first, erased-view, safe-erased, joined}
+use Rattle.model.proofs.StepsJoin.{same-left, erased-view, safe-erased, joined}
 
 -- ---- a device that shows the same buckets
 
@@ -91,7 +92,7 @@ module _ (z : Sizes) (p-pos : 1 ≤ z .p) (plain : List ℕ) (s : State) (d : De
 
   module _ (b w : ℕ) (m : Maps (s .writes) b w) where
     w-in : w < z .c
-    w-in = in-chip z plain s d j w (omega (arith, maps-times (s .writes) b w m))
+    w-in = on-chip z w (in-chip z plain s d j w (omega (arith, maps-times (s .writes) b w m)))
 
     abbrev left : Device
     left = apply z (gone z d (s .gc)) (erase w)
@@ -103,7 +104,7 @@ module _ (z : Sizes) (p-pos : 1 ≤ z .p) (plain : List ℕ) (s : State) (d : De
     no-logs c i = go (ℕ-discrete c w) (givesOf z left c b i) refl
       where
         go : Dec (c ≡ w) → (o : Option ℕ) → givesOf z left c b i ≡ o → givesOf z left c b i ≡ none
-        go (yes q) o e = rw q (blank-gives z left w (erased-first z p-pos swept L w w-in) b i)
+        go (yes q) o e = rw q (blank-gives z left w p-pos (tag-erased z swept L w w-in) b i)
         go (no ne) none e = e
         go (no ne) (some x) e =
             let m' = who-gives z plain s d j p-pos c b i x (sym (gives-same z p-pos swept left c (same c ne) b i) ∙ e) in
@@ -113,7 +114,7 @@ module _ (z : Sizes) (p-pos : 1 ≤ z .p) (plain : List ℕ) (s : State) (d : De
     who c h = go (ℕ-discrete c w)
       where
         go : Dec (c ≡ w) → Maps (s .reads) b c
-        go (yes q) = absurd (true≢false (sym h ∙ rw q (blank-holds z left w (erased-first z p-pos swept L w w-in) b)))
+        go (yes q) = absurd (true≢false (sym h ∙ rw q (blank-holds z left w p-pos (tag-erased z swept L w w-in) b)))
         go (no ne) = who-holds z plain s d j p-pos c b (sym (holds-same z p-pos swept left c (same c ne) b) ∙ h)
 
     own : Stored b → SafeAt (view z (apply z (gone z d (s .gc)) (erase w))) b (plainAt z plain b)
@@ -147,7 +148,7 @@ module _ (z : Sizes) (p-pos : 1 ≤ z .p) (plain : List ℕ) (s : State) (d : De
   -- ---- a read bucket
 
   module _ (b r : ℕ) (m : Maps (s .reads) b r) where
-    r-parts : (r < z .c) × (complete z d r ≡ true) × (backOf z d r ≡ b)
+    r-parts : (r < body z) × (complete z d r ≡ true) × (backOf z d r ≡ b)
     r-parts = holds-parts z d r b (j .reads .copies b r m)
 
     r-same : Same z d (gone z d (s .gc)) r
@@ -155,7 +156,7 @@ module _ (z : Sizes) (p-pos : 1 ≤ z .p) (plain : List ℕ) (s : State) (d : De
 
     own-copies : ((i : ℕ) → Lay (view z (gone z d (s .gc))) b (view z (gone z d (s .gc)) .disk b) i (plainAt z plain b i))
         → SafeAt (view z (apply z (gone z d (s .gc)) (erase r))) b (plainAt z plain b)
-    own-copies lay = retire-copies (erased-view z p-pos swept L r (r-parts .0)) b (plainAt z plain b)
+    own-copies lay = retire-copies (erased-view z p-pos swept L r (on-chip z r (r-parts .0))) b (plainAt z plain b)
         (λ c i q. rw (times-only c r q) (copy-silent z swept r (complete-same z p-pos d swept r r-same ∙ r-parts .1) b i))
         (λ c h. rw (sym (who-holds z plain s d j p-pos c b h .is) ∙ m .is) (le-of-eq (sym (times-self r)))) lay
 
@@ -163,6 +164,6 @@ module _ (z : Sizes) (p-pos : 1 ≤ z .p) (plain : List ℕ) (s : State) (d : De
         → Inside z plain (moved s (without b (s .reads)) (s .writes) (s .gc ++ cachesOf b (s .reads)) (s .free)) d
     read-dropped lay = requeued z plain s d j (without b (s .reads)) (s .writes) (s .gc ++ cachesOf b (s .reads))
         (rw (cachesOf-one (s .reads) b r m) (joined z plain (s .gc) d r (j .ready)
-        (safe-erased z p-pos swept L r (r-parts .0) plain b (backOf-same z p-pos d swept r r-same ∙ r-parts .2) (swept-safe z plain s d j) (own-copies lay))))
+        (safe-erased z p-pos swept L r (on-chip z r (r-parts .0)) plain b (backOf-same z p-pos d swept r r-same ∙ r-parts .2) (swept-safe z plain s d j) (own-copies lay))))
         (λ c. omega (arith, times-without (s .reads) b (j .reads .read-once) c, times-append c (s .gc) (cachesOf b (s .reads))))
         (reads-without z d (s .reads) b (j .reads)) (j .writes) (omega (arith, length-without (s .reads) b, j .few-reads)) (j .few-writes)

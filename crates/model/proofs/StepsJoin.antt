@@ -12,6 +12,7 @@ use Rattle.model.specs.declared.Sizes.{Sizes}
 use Rattle.model.specs.Sizes.{Device}
 use Rattle.model.specs.Stores.{Store, erase, apply, applyAll, tagOf}
 use Rattle.model.specs.Image.{backOf}
+use Rattle.model.proofs.Limits.{on-chip}
 use Rattle.model.proofs.Views.{SafeAt}
 use Rattle.model.proofs.Retire.{Without, retire-others}
 use Rattle.model.proofs.Erases.{without-gone}

@@ -11,14 +11,14 @@ use Rattle.lists.specs.Lists.{head, empty, times}
 use Rattle.lists.proofs.Counts.{times-self, times-rest}
 use Rattle.model.specs.declared.Sizes.{Sizes}
 use Rattle.model.specs.declared.Entry.{Entry}
-use Rattle.model.specs.Sizes.{Device, bucketSize}
+use Rattle.model.specs.Sizes.{Device, bucketSize, body}
 use Rattle.model.specs.Stores.{erase, apply, applyAll, bucketBytes}
 use Rattle.model.specs.Spare.{readKind, dirtyKind}
 use Rattle.model.specs.Image.{isDirty}
 use Rattle.model.specs.State.{State, moved, entry, holds, without}
-use Rattle.model.specs.Steps.{_then_, makeRoom, taken, takeCopy, logStores, copy}
+use Rattle.model.specs.Steps.{_then_, makeRoom, taken, takeCopy, logStores, fillCopy, copy}
 use Rattle.model.proofs.Views.{Lay, SafeAt, copied, uncopied, lay-disk}
-use Rattle.model.proofs.Bounds.{Bounds}
+use Rattle.model.proofs.Limits.{Limits, on-chip}
 use Rattle.model.proofs.Safe.{view, plainAt, Safe, Sound, Along}
 use Rattle.model.proofs.Frames.{Lengths, lengths-kept}
 use Rattle.model.proofs.Prefix.{applyAll-append, along-map}
@@ -54,7 +54,7 @@ pub record Fresh (z : Sizes) (plain : List ℕ) (k b : ℕ) (s t : State) (e : D
   pub writes-same : t .writes ≡ s .writes
   pub next-is : t .next ≡ s .next + 1
 
-module _ (z : Sizes) (B : Bounds z) (plain : List ℕ) (b k : ℕ) (hb : b < z .b) (hk : (k ≡ readKind) ⊎ (k ≡ dirtyKind)) (bytes : List ℕ) (len : length bytes ≡ bucketSize z)
+module _ (z : Sizes) (B : Limits z) (plain : List ℕ) (b k : ℕ) (hb : b < z .b) (hk : (k ≡ readKind) ⊎ (k ≡ dirtyKind)) (bytes : List ℕ) (len : length bytes ≡ bucketSize z)
     (plain-bytes : (i : ℕ) → i < bucketSize z → getD bytes i 0 ≡ plainAt z plain b i) where
   -- ---- with a free head
 
@@ -63,7 +63,7 @@ module _ (z : Sizes) (B : Bounds z) (plain : List ℕ) (b k : ℕ) (hb : b < z .
     c-free : 1 ≤ times (head (s .free)) (s .free)
     c-free = omega (arith, times-rest (head (s .free)) (s .free) has-free, times-self (head (s .free)))
 
-    c-in : head (s .free) < z .c
+    c-in : head (s .free) < body z
     c-in = in-chip z plain s d j (head (s .free)) (omega (arith, c-free))
 
     gs-in : (x : ℕ) → 1 ≤ times x (s .gc) → (x < z .c) × (head (s .free) ≢ x)
@@ -109,34 +109,34 @@ module _ (z : Sizes) (B : Bounds z) (plain : List ℕ) (b k : ℕ) (hb : b < z .
 
   module _ (s : State) (d : Device) (j : Inside z plain s d) (next-room : s .next < 4294967296) (read-case : k ≡ readKind → holds b (s .reads) ≡ false) where
     abbrev t : State
-    t = makeRoom s .state
+    t = makeRoom z s d .state
 
     abbrev e : Device
-    e = applyAll z d (makeRoom s .stores)
+    e = applyAll z d (makeRoom z s d .stores)
 
-    roomy : Roomy s (makeRoom s .state)
+    roomy : Roomy s (makeRoom z s d .state)
     roomy = room-made z (B .p-low) plain s d j (B .room)
 
-    room : Good z plain (makeRoom s) d
+    room : Good z plain (makeRoom z s d) d
     room = room-good z (B .p-low) plain s d j
 
-    next-there : makeRoom s .state .next < 4294967296
+    next-there : makeRoom z s d .state .next < 4294967296
     next-there = rw (roomy .next-same) next-room
 
-    case-there : k ≡ readKind → holds b (makeRoom s .state .reads) ≡ false
+    case-there : k ≡ readKind → holds b (makeRoom z s d .state .reads) ≡ false
     case-there q = rw (roomy .reads-same) (read-case q)
 
-    pub copy-good : (holds b (s .reads) ≡ true) ⊎ (length (s .reads) < z .r) → Good z plain (copy z k b bytes s) d
-    unfolding copy
-    copy-good fewer = then-good z plain (makeRoom s) (λ t. record { stores = logStores z (head (t .free)) 0 k (t .next) b 0 bytes; state = takeCopy b t }) d room
+    pub copy-good : (holds b (s .reads) ≡ true) ⊎ (length (s .reads) < z .r) → Good z plain (copy z k b bytes s d) d
+    unfolding copy fillCopy
+    copy-good fewer = then-good z plain (makeRoom z) (fillCopy z k b bytes) s d (j .sizes-are) room
         (program-good t e (room .1) (roomy .has-free) next-there case-there
         (subst (λ (l : List Entry). (holds b l ≡ true) ⊎ (length l < z .r)) (sym (roomy .reads-same)) fewer))
 
-    pub copy-fresh : Fresh z plain k b s (copy z k b bytes s .state) (applyAll z d (copy z k b bytes s .stores))
-    unfolding copy _then_
+    pub copy-fresh : Fresh z plain k b s (copy z k b bytes s d .state) (applyAll z d (copy z k b bytes s d .stores))
+    unfolding copy fillCopy _then_
     copy-fresh =
         let f = program-fresh t e (room .1) (roomy .has-free) next-there case-there in
-        subst (λ (x : Device). Fresh z plain k b s (takeCopy b t) x) (sym (applyAll-append z d (makeRoom s .stores) (logStores z (head (t .free)) 0 k (t .next) b 0 bytes)))
+        subst (λ (x : Device). Fresh z plain k b s (takeCopy b t) x) (sym (applyAll-append z d (makeRoom z s d .stores) (logStores z (head (t .free)) 0 k (t .next) b 0 bytes)))
         (record {
           cache = f .cache;
           maps = f .maps;

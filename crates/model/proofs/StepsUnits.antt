@@ -16,9 +16,9 @@ use Rattle.model.specs.Sizes.{Device, bucketSize}
 use Rattle.model.specs.Stores.{applyAll, bucketBytes, diskBytes, unitStores}
 use Rattle.model.specs.Image.{isDirty}
 use Rattle.model.specs.State.{State, moved, entry, cachesOf, without, backs}
-use Rattle.model.specs.Operations.{touch, dropOldest}
+use Rattle.model.specs.Operations.{touch, dropOldest, withoutOldest}
 use Rattle.model.proofs.Views.{Lay, SafeAt, copied, uncopied, lay-base}
-use Rattle.model.proofs.Bounds.{Bounds}
+use Rattle.model.proofs.Limits.{Limits, on-chip}
 use Rattle.model.proofs.Safe.{view, holdsOf, plainAt, Safe, Sound, Along}
 use Rattle.model.proofs.Frames.{length-bucket}
 use Rattle.model.proofs.Show.{isDirty-same}
@@ -46,7 +46,7 @@ oldest (e ∷ l) ds h = record {
   maps-it = maps-here e l (e .back) refl;
 }
 
-module _ (z : Sizes) (B : Bounds z) (plain : List ℕ) (s : State) (d : Device) (j : Inside z plain s d) where
+module _ (z : Sizes) (B : Limits z) (plain : List ℕ) (s : State) (d : Device) (j : Inside z plain s d) where
   -- ---- units
 
   module _ (b : ℕ) (hb : b < z .b) (bytes : List ℕ) (len : length bytes ≡ bucketSize z) (allowed : Allowed z B plain (s .gc) (gc-below z plain s d j) b hb bytes len d) where
@@ -80,7 +80,7 @@ module _ (z : Sizes) (B : Bounds z) (plain : List ℕ) (s : State) (d : Device) 
   unfolding Safe
   read-leaves b r m o = read-dropped z (B .p-low) plain s d j b r m (lay-disk b r m o (swept-safe z plain s d j b))
 
-module _ (z : Sizes) (B : Bounds z) (plain : List ℕ) (s : State) (d : Device) (j : Inside z plain s d) where
+module _ (z : Sizes) (B : Limits z) (plain : List ℕ) (s : State) (d : Device) (j : Inside z plain s d) where
   -- "Dirty: write its P units first"
   left-good : (b r : ℕ) → Maps (s .reads) b r → Good z plain (record {
     stores = if isDirty z d r then unitStores z b (bucketBytes z d r) else [];
@@ -93,7 +93,7 @@ module _ (z : Sizes) (B : Bounds z) (plain : List ℕ) (s : State) (d : Device) 
       held = j .reads .copies b r m
 
       len : length (bucketBytes z d r) ≡ bucketSize z
-      len = length-bucket z d (lens z plain s d j) r (holds-parts z d r b held .0)
+      len = length-bucket z d (lens z plain s d j) r (on-chip z r (holds-parts z d r b held .0))
 
       hb : b < z .b
       hb = read-back z plain s d j (B .p-low) b r m
@@ -113,19 +113,19 @@ module _ (z : Sizes) (B : Bounds z) (plain : List ℕ) (s : State) (d : Device) 
             read-leaves z B plain s e (units-inside z B plain s d j b hb (bucketBytes z d r) len a) b r m (inr (w .disk-is ∙ sym (w .still r .bytes-same))),
           )
 
-  pub oldest-good : Good z plain (dropOldest z d s) d
-  unfolding dropOldest
+  pub oldest-good : Good z plain (dropOldest z s d) d
+  unfolding dropOldest withoutOldest
   oldest-good = go (true-or-false (ltb (length (s .reads)) (z .r)))
     where
-      go : (ltb (length (s .reads)) (z .r) ≡ true) ⊎ (ltb (length (s .reads)) (z .r) ≡ false) → Good z plain (dropOldest z d s) d
-      go (inl f) = rw f (nothing-good z plain s d j)
+      go : (ltb (length (s .reads)) (z .r) ≡ true) ⊎ (ltb (length (s .reads)) (z .r) ≡ false) → Good z plain (dropOldest z s d) d
+      go (inl f) = rw f (nothing-good z plain s d d j)
       go (inr f) =
           let o = oldest (s .reads) (j .reads .read-once) (omega (arith, ltb-false (length (s .reads)) (z .r) f, B .r-low)) in
           rw (f, o .rest-is, o .cache-is) (left-good (getD (s .reads) 0 (entry 0 0 0) .back) (getD (s .reads) 0 (entry 0 0 0) .cache) (o .maps-it))
 
   -- ---- made most recent
 
-  pub touch-inside : (b r : ℕ) → Maps (s .reads) b r → Inside z plain (touch z d b s) d
+  pub touch-inside : (b r : ℕ) → Maps (s .reads) b r → Inside z plain (touch b s) d
   unfolding touch moved entry
   touch-inside b r m = rw (cachesOf-one (s .reads) b r m) (requeued z plain s d j (without b (s .reads) ++ (entry b r 0 ∷ [])) (s .writes) (s .gc) (j .ready)
       (λ c. omega (arith, times-grown (entry b r 0) (without b (s .reads)) c, times-without (s .reads) b (j .reads .read-once) c, ap (times c) (cachesOf-one (s .reads) b r m)))

@@ -14,15 +14,15 @@ use Rattle.lists.proofs.Tests.{true-or-false}
 use Rattle.lists.proofs.Rows.{length-row}
 use Rattle.model.specs.declared.Sizes.{Sizes}
 use Rattle.model.specs.Sizes.{Device, pagesFor}
-use Rattle.model.specs.Stores.{bucketBytes, unitStore, unitStores}
+use Rattle.model.specs.Stores.{applyAll, bucketBytes, unitStore, unitStores}
 use Rattle.model.specs.Spare.{readKind, writeKind, dirtyKind}
 use Rattle.model.specs.Image.{epochOf, isDirty, blanks}
 use Rattle.model.specs.State.{State, entry, holds, cacheOf}
-use Rattle.model.specs.Steps.{Plan, nothing, _then_, move, eraseStep, makeRoom, dropWrite, logStore, logStores, merged, copy, evict}
-use Rattle.model.specs.Operations.{lastEpoch, victim, fits, makeWay, appendLog, startLog, write, dropOldest, read}
+use Rattle.model.specs.Steps.{Plan, Step, nothing, _then_, move, eraseStep, makeRoom, dropWrite, logStore, logStores, merged, fillCopy, copy, writeOut, evict, freed}
+use Rattle.model.specs.Operations.{lastEpoch, victim, fits, makeWay, appendLog, startLog, write, dropOldest, read, outgoing, evictAny, withoutOldest}
 use Rattle.model.specs.Calls.{Call, readCall, writeCall, refusal, planOf, carryOut, turnedDown, call}
 use Rattle.model.specs.StoresMade.{FewStores}
-use Rattle.model.proofs.Bounds.{Bounds, pages-whole, pages-fit}
+use Rattle.model.proofs.Limits.{Limits, pages-whole, pages-fit}
 use Rattle.model.proofs.Calling.{Range, Passed, read-passed}
 use Rattle.model.proofs.Tested.{bounds, write-back, merged-size}
 use Rattle.model.proofs.Write.{victim-in, write-passed}
@@ -30,27 +30,27 @@ use Rattle.model.proofs.Write.{victim-in, write-passed}
 -- ---- steps
 
 -- one step after the other
-then-most : (p : Plan) (f : State → Plan) (m n k : ℕ) → length (p .stores) ≤ m → length (f (p .state) .stores) ≤ n → m + n ≤ k → length ((p then f) .stores) ≤ k
+then-most : (f g : Step) (s : State) (d : Device) (m n k : ℕ) → length (f s d .stores) ≤ m → ((t : State) (e : Device) → length (g t e .stores) ≤ n) → m + n ≤ k → length ((f then g) s d .stores) ≤ k
 unfolding _then_
-then-most p f m n k hp hf h = rw (length-append (p .stores) (f (p .state) .stores)) (omega arith)
-
-length-erase : (s : State) → length (eraseStep s .stores) ≤ 1
-unfolding eraseStep nothing
-length-erase s = go (true-or-false (empty (s .gc)))
-  where
-    go : (empty (s .gc) ≡ true) ⊎ (empty (s .gc) ≡ false) → length (eraseStep s .stores) ≤ 1
-    go (inl e) = rw e (omega arith)
-    go (inr e) = rw e (omega arith)
-
-length-room : (s : State) → length (makeRoom s .stores) ≤ 1
-unfolding makeRoom nothing
-length-room s = go (true-or-false (empty (s .free)))
-  where
-    go : (empty (s .free) ≡ true) ⊎ (empty (s .free) ≡ false) → length (makeRoom s .stores) ≤ 1
-    go (inl e) = rw e (length-erase s)
-    go (inr e) = rw e (omega arith)
+then-most f g s d m n k hf hg h = let e = applyAll (s .sizes) d (f s d .stores) in rw (length-append (f s d .stores) (g (f s d .state) e .stores)) (omega (arith, hg (f s d .state) e))
 
 module _ (z : Sizes) where
+  length-erase : (s : State) (d : Device) → length (eraseStep z s d .stores) ≤ 1
+  unfolding eraseStep freed nothing
+  length-erase s d = go (true-or-false (empty (s .gc)))
+    where
+      go : (empty (s .gc) ≡ true) ⊎ (empty (s .gc) ≡ false) → length (eraseStep z s d .stores) ≤ 1
+      go (inl e) = rw e (omega arith)
+      go (inr e) = rw e (omega arith)
+
+  length-room : (s : State) (d : Device) → length (makeRoom z s d .stores) ≤ 1
+  unfolding makeRoom nothing
+  length-room s d = go (true-or-false (empty (s .free)))
+    where
+      go : (empty (s .free) ≡ true) ⊎ (empty (s .free) ≡ false) → length (makeRoom z s d .stores) ≤ 1
+      go (inl e) = rw e (length-erase s d)
+      go (inr e) = rw e (omega arith)
+
   length-log : (c first k e b off : ℕ) (bytes : List ℕ) → length (logStores z c first k e b off bytes) ≡ pagesFor z (length bytes)
   unfolding logStores
   length-log c first k e b off bytes = length-row (pagesFor z (length bytes)) (logStore z c first k e b off bytes)
@@ -59,11 +59,9 @@ module _ (z : Sizes) where
   unfolding unitStores
   length-units b bytes = length-row (z .p) (unitStore z b bytes)
 
-  length-copy : (k b : ℕ) (bytes : List ℕ) (s : State) → length (copy z k b bytes s .stores) ≤ pagesFor z (length bytes) + 1
-  unfolding copy
-  length-copy k b bytes s =
-      let t = makeRoom s .state in
-      then-most (makeRoom s) _ 1 (pagesFor z (length bytes)) _ (length-room s) (le-of-eq (length-log (head (t .free)) 0 k (t .next) b 0 bytes)) (omega arith)
+  length-copy : (k b : ℕ) (bytes : List ℕ) (s : State) (d : Device) → length (copy z k b bytes s d .stores) ≤ pagesFor z (length bytes) + 1
+  unfolding copy fillCopy
+  length-copy k b bytes s d = then-most (makeRoom z) _ s d 1 (pagesFor z (length bytes)) _ (length-room s d) (λ t e. le-of-eq (length-log (head (t .free)) 0 k (t .next) b 0 bytes)) (omega arith)
 
 -- ---- a call that passed its tests
 
@@ -71,83 +69,82 @@ module _ (s : State) (d : Device) (pass : Passed s d) where
   abbrev z : Sizes
   z = s .sizes
 
-  B : Bounds (s .sizes)
+  B : Limits (s .sizes)
   B = bounds s d pass
 
   merged-pages : (b : ℕ) → b < s .sizes .b → pagesFor (s .sizes) (length (merged (s .sizes) s d b)) ≡ s .sizes .p
   merged-pages b hb = ap (pagesFor z) (merged-size s d pass b hb) ∙ pages-whole z (omega (arith, B .s-low))
 
-  copy-most : (k b : ℕ) → b < s .sizes .b → (t : State) → length (copy (s .sizes) k b (merged (s .sizes) s d b) t .stores) ≤ s .sizes .p + 1
-  copy-most k b hb t = omega (arith, length-copy z k b (merged z s d b) t, merged-pages b hb)
+  copy-most : (k b : ℕ) → b < s .sizes .b → (t : State) (e : Device) → length (copy (s .sizes) k b (merged (s .sizes) s d b) t e .stores) ≤ s .sizes .p + 1
+  copy-most k b hb t e = omega (arith, length-copy z k b (merged z s d b) t e, merged-pages b hb)
 
   -- ---- a read
 
-  oldest-most : length (dropOldest (s .sizes) d s .stores) ≤ s .sizes .p
-  unfolding dropOldest nothing
+  oldest-most : length (dropOldest (s .sizes) s d .stores) ≤ s .sizes .p
+  unfolding dropOldest withoutOldest nothing
   oldest-most = go (true-or-false (ltb (length (s .reads)) (z .r))) (true-or-false (isDirty z d (getD (s .reads) 0 (entry 0 0 0) .cache)))
     where
       go : (ltb (length (s .reads)) (z .r) ≡ true) ⊎ (ltb (length (s .reads)) (z .r) ≡ false)
-          → (isDirty z d (getD (s .reads) 0 (entry 0 0 0) .cache) ≡ true) ⊎ (isDirty z d (getD (s .reads) 0 (entry 0 0 0) .cache) ≡ false) → length (dropOldest z d s .stores) ≤ z .p
+          → (isDirty z d (getD (s .reads) 0 (entry 0 0 0) .cache) ≡ true) ⊎ (isDirty z d (getD (s .reads) 0 (entry 0 0 0) .cache) ≡ false) → length (dropOldest z s d .stores) ≤ z .p
       go (inl f) q = rw f (omega arith)
       go (inr f) (inl q) = rw (f, q) (omega (arith, length-units z (getD (s .reads) 0 (entry 0 0 0) .back) (bucketBytes z d (getD (s .reads) 0 (entry 0 0 0) .cache))))
       go (inr f) (inr q) = rw (f, q) (omega arith)
 
-  read-most : (b : ℕ) → b < s .sizes .b → length (read (s .sizes) d b s .stores) ≤ 2 * s .sizes .p + 1
+  read-most : (b : ℕ) → b < s .sizes .b → length (read (s .sizes) b s d .stores) ≤ 2 * s .sizes .p + 1
   unfolding read nothing move
   read-most b hb = go (true-or-false (ltb lastEpoch (s .next))) (true-or-false (holds b (s .reads))) (true-or-false (holds b (s .writes)))
     where
-      copied : (k : ℕ) → length ((dropOldest z d s then copy z k b (merged z s d b)) .stores) ≤ 2 * z .p + 1
-      copied k = then-most (dropOldest z d s) (copy z k b (merged z s d b)) (z .p) (z .p + 1) _ oldest-most (copy-most k b hb (dropOldest z d s .state)) (omega arith)
+      copied : (k : ℕ) → length ((dropOldest z then copy z k b (merged z s d b)) s d .stores) ≤ 2 * z .p + 1
+      copied k = then-most (dropOldest z) (copy z k b (merged z s d b)) s d (z .p) (z .p + 1) _ oldest-most (copy-most k b hb) (omega arith)
 
       go : (ltb lastEpoch (s .next) ≡ true) ⊎ (ltb lastEpoch (s .next) ≡ false) → (holds b (s .reads) ≡ true) ⊎ (holds b (s .reads) ≡ false)
-          → (holds b (s .writes) ≡ true) ⊎ (holds b (s .writes) ≡ false) → length (read z d b s .stores) ≤ 2 * z .p + 1
+          → (holds b (s .writes) ≡ true) ⊎ (holds b (s .writes) ≡ false) → length (read z b s d .stores) ≤ 2 * z .p + 1
       go (inl e) r w = rw e (omega arith)
-      go (inr e) (inl r) (inl w) = rw (e, r, w) (omega (arith, copy-most dirtyKind b hb s))
+      go (inr e) (inl r) (inl w) = rw (e, r, w) (omega (arith, copy-most dirtyKind b hb s d))
       go (inr e) (inl r) (inr w) = rw (e, r, w) (omega arith)
       go (inr e) (inr r) (inl w) = rw (e, r, w) (copied dirtyKind)
       go (inr e) (inr r) (inr w) = rw (e, r, w) (copied readKind)
 
   -- ---- a write
 
-  evict-most : (b : ℕ) → holds b (s .writes) ≡ true → length (evict (s .sizes) d b s .stores) ≤ s .sizes .p + 1
-  unfolding evict move nothing
+  evict-most : (b : ℕ) → holds b (s .writes) ≡ true → length (evict (s .sizes) b s d .stores) ≤ s .sizes .p + 1
+  unfolding evict move nothing writeOut
   evict-most b h = go (true-or-false (holds b (s .reads)))
     where
       hb : b < z .b
       hb = write-back s d pass b (cacheOf b (s .writes)) (record { held = h; is = refl })
 
-      go : (holds b (s .reads) ≡ true) ⊎ (holds b (s .reads) ≡ false) → length (evict z d b s .stores) ≤ z .p + 1
-      go (inl r) = rw r (then-most (copy z dirtyKind b (merged z s d b) s) (move (dropWrite b)) (z .p + 1) 0 _ (copy-most dirtyKind b hb s) (omega arith) (omega arith))
-      go (inr r) = rw r (then-most (record { stores = unitStores z b (merged z s d b); state = s }) (move (dropWrite b)) (z .p) 0 _ (le-of-eq (length-units z b (merged z s d b))) (omega arith) (omega arith))
+      go : (holds b (s .reads) ≡ true) ⊎ (holds b (s .reads) ≡ false) → length (evict z b s d .stores) ≤ z .p + 1
+      go (inl r) = rw r (then-most (copy z dirtyKind b (merged z s d b)) (move (dropWrite b)) s d (z .p + 1) 0 _ (copy-most dirtyKind b hb s d) (λ t e. omega arith) (omega arith))
+      go (inr r) = rw r (then-most (writeOut z b (merged z s d b)) (move (dropWrite b)) s d (z .p) 0 _ (le-of-eq (length-units z b (merged z s d b))) (λ t e. omega arith) (omega arith))
 
-  way-most : (b : ℕ) → length (makeWay (s .sizes) d b s .stores) ≤ s .sizes .p + 1
-  unfolding makeWay nothing
+  way-most : (b : ℕ) → length (makeWay (s .sizes) b s d .stores) ≤ s .sizes .p + 1
+  unfolding makeWay outgoing evictAny nothing
   way-most b = go (true-or-false (holds b (s .writes))) (true-or-false (leb (z .w) (length (s .writes))))
     where
       go : (holds b (s .writes) ≡ true) ⊎ (holds b (s .writes) ≡ false) → (leb (z .w) (length (s .writes)) ≡ true) ⊎ (leb (z .w) (length (s .writes)) ≡ false)
-          → length (makeWay z d b s .stores) ≤ z .p + 1
+          → length (makeWay z b s d .stores) ≤ z .p + 1
       go (inl h) q = rw h (evict-most b h)
-      go (inr h) (inl q) = rw (h, q) (evict-most (victim z d s) (victim-in z d s (omega (arith, leb-true (z .w) (length (s .writes)) q, B .w-low))))
+      go (inr h) (inl q) = rw (h, q) (evict-most (victim z d (s .writes)) (victim-in z d (s .writes) (omega (arith, leb-true (z .w) (length (s .writes)) q, B .w-low))))
       go (inr h) (inr q) = rw (h, q) (omega arith)
 
-  write-most : (b off : ℕ) (bytes : List ℕ) → Range (s .sizes) b off (length bytes) → length (write (s .sizes) d b off bytes s .stores) ≤ 2 * s .sizes .p + 2
+  write-most : (b off : ℕ) (bytes : List ℕ) → Range (s .sizes) b off (length bytes) → length (write (s .sizes) b off bytes s d .stores) ≤ 2 * s .sizes .p + 2
   unfolding write appendLog startLog
   write-most b off bytes range = go (true-or-false (fits z d b (pagesFor z (length bytes)) s))
     where
       few : pagesFor z (length bytes) ≤ z .p
       few = pages-fit z (length bytes) (omega (arith, B .s-low)) (omega (arith, range .range-in))
 
-      start : (t : State) → length (startLog z d b off bytes t .stores) ≤ z .p
-      start t = omega (arith, length-log z (head (t .free)) 0 writeKind (t .next) b off bytes, few)
+      start : (t : State) (e : Device) → length (startLog z b off bytes t e .stores) ≤ z .p
+      start t e = omega (arith, length-log z (head (t .free)) 0 writeKind (t .next) b off bytes, few)
 
-      go : (fits z d b (pagesFor z (length bytes)) s ≡ true) ⊎ (fits z d b (pagesFor z (length bytes)) s ≡ false) → length (write z d b off bytes s .stores) ≤ 2 * z .p + 2
+      go : (fits z d b (pagesFor z (length bytes)) s ≡ true) ⊎ (fits z d b (pagesFor z (length bytes)) s ≡ false) → length (write z b off bytes s d .stores) ≤ 2 * z .p + 2
       go (inl q) =
           let w = cacheOf b (s .writes) in
           rw q (omega (arith, length-log z w (z .p - blanks z d w) writeKind (epochOf z d w) b off bytes, few))
       go (inr q) =
-          rw q (then-most (makeWay z d b s then makeRoom) (startLog z d b off bytes) (z .p + 2) (z .p) _
-          (then-most (makeWay z d b s) makeRoom (z .p + 1) 1 _ (way-most b) (length-room (makeWay z d b s .state)) (omega arith))
-          (start ((makeWay z d b s then makeRoom) .state)) (omega arith))
+          rw q (then-most (makeWay z b) (makeRoom z then startLog z b off bytes) s d (z .p + 1) (z .p + 1) _ (way-most b)
+          (λ t e. then-most (makeRoom z) (startLog z b off bytes) t e 1 (z .p) _ (length-room z t e) start (omega arith)) (omega arith))
 
 -- ---- the calls
 

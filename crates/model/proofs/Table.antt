@@ -8,12 +8,14 @@ use mathlib.Core.List.{List, [], _∷_, _++_}
 use lib.ListN.{replicate}
 use Rattle.lists.specs.Lists.{ff}
 use Rattle.model.specs.declared.Sizes.{Sizes}
+use Rattle.model.specs.declared.Entry.{Entry}
 use Rattle.model.specs.Sizes.{Device, pagesFor}
 use Rattle.model.specs.Spare.{writeKind, tagBytes}
 use Rattle.model.specs.Image.{merge}
-use Rattle.model.specs.State.{State, entry}
+use Rattle.model.specs.State.{entry}
 use Rattle.model.specs.Operations.{halved, victim}
-use Rattle.model.specs.Calls.{firstFailed, placeTests}
+use Rattle.model.specs.Tests.{firstFailed}
+use Rattle.model.specs.Calls.{placeTests}
 use Rattle.model.specs.Driving.{output}
 use Rattle.model.proofs.Computed.{computed}
 
@@ -48,10 +50,9 @@ twoLogs = record {
   disk = replicate 8 0;
 }
 
--- a state whose write queue holds both, with these priorities
-unfoldable pub queuing : ℕ → ℕ → State
-queuing p q = record
-    { sizes = two-buckets; running = true; reads = []; writes = entry 0 0 p ∷ entry 1 1 q ∷ []; gc = []; free = []; accepted = 0; next = 3 }
+-- a write queue of both, with these priorities
+abbrev pub queuing : ℕ → ℕ → List Entry
+queuing p q = entry 0 0 p ∷ entry 1 1 q ∷ []
 
 pub record Table : Type 0 where
   pub K1 : output (text "01FFFF000402000800020101\n02FFFF000000000001\n02FFFF000100000001\n03FFFF00000000AA\n03FFFF00010000CC\n03FFFF00000001BB\n06FFFF\n02FFFF000000000002\n")
@@ -70,5 +71,5 @@ pub record Table : Type 0 where
   pub then-by-epoch : victim two-buckets twoLogs (queuing 1 1) ≡ 0
 
 pub table : Table
-unfolding computed text oneLog twoLogs queuing
+unfolding computed text oneLog twoLogs
 table = record { K1 = refl; K2 = refl; K3 = refl; K4 = refl; K5 = refl; K6 = refl; K7 = refl; K8 = refl; K9 = refl; by-priority = refl; then-by-epoch = refl; K9-repeated = refl }

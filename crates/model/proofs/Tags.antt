@@ -2,10 +2,10 @@
 use Prim.Native.Nat.{ℕ, _+_, _*_, _/_, _%_, _≤_, _<_}
 use mathlib.Core.Path.{_≡_, refl, sym, ap, _∙_}
 use mathlib.Core.List.{List}
-use mathlib.Core.Bool.{true, false}
+use mathlib.Core.Bool.{Bool, true, false}
 use native.Mathlib.Omega.{arith}
 use native.Mathlib.Nat.{div-div-eq-div-mul, div-add-mod', mod-eq-of-lt}
-use lib.ListN.{length}
+use lib.ListN.{length, getD}
 use borrow.Author.Tests.{ne-eqb}
 use Rattle.lists.specs.Lists.{every, same, ff}
 use Rattle.lists.proofs.Sames.{same-equal}
@@ -67,3 +67,12 @@ blank-ff = refl
 pub blank-true : (tag : List ℕ) → blank tag ≡ true → tag ≡ ff 16
 unfolding blank
 blank-true tag h = same-equal tag (ff 16) h
+
+-- a kind of the page rules is not that of erased bytes
+pub kind-programmed : (tag : List ℕ) → kind tag < 4 → blank tag ≡ false
+unfolding kind
+kind-programmed tag h = go (blank tag) refl
+  where
+    go : (t : Bool) → blank tag ≡ t → blank tag ≡ false
+    go false e = e
+    go true e = let k : getD tag 0 0 ≡ 255 = rw (blank-true tag e) in absurd (omega arith)

@@ -8,11 +8,11 @@ use lib.Dec.{eqb}
 use borrow.Author.Tests.{eqb-true}
 use Rattle.lists.proofs.Tests.{every-at, and-left, and-right}
 use Rattle.model.specs.declared.Sizes.{Sizes}
-use Rattle.model.specs.Sizes.{Device, bucketSize}
+use Rattle.model.specs.Sizes.{Device, bucketSize, body}
 use Rattle.model.specs.Image.{used, backOf, complete}
 use Rattle.model.specs.State.{State, readAgrees, writeAgrees, stateFits}
 use Rattle.model.specs.Steps.{merged}
-use Rattle.model.proofs.Bounds.{Bounds, bounds-of}
+use Rattle.model.proofs.Limits.{Limits, limits-of, on-chip}
 use Rattle.model.proofs.Frames.{Lengths, lengths-of}
 use Rattle.model.proofs.Formed.{Formed, formed-of}
 use Rattle.model.proofs.BucketKinds.{complete-copy, copy-used, write-used, back-below}
@@ -27,8 +27,8 @@ module _ (s : State) (d : Device) (pass : Passed s d) where
   abbrev z : Sizes
   z = s .sizes
 
-  pub bounds : Bounds (s .sizes)
-  bounds = bounds-of z (pass .in-limits)
+  pub bounds : Limits (s .sizes)
+  bounds = limits-of z (pass .in-limits)
 
   pub lens : Lengths (s .sizes) d
   lens = lengths-of z d (pass .lent-whole)
@@ -36,17 +36,17 @@ module _ (s : State) (d : Device) (pass : Passed s d) where
   pub formed : Formed (s .sizes) d
   formed = formed-of z d (pass .well-formed)
 
-  pub in-place : (c : ℕ) → 1 ≤ places s c → c < s .sizes .c
+  pub in-place : (c : ℕ) → 1 ≤ places s c → c < body (s .sizes)
   unfolding stateFits
-  in-place c h = placed (z .c) s (every-at _ (pass .state-fits) 0) c h
+  in-place c h = placed (body z) s (every-at _ (pass .state-fits) 0) c h
 
-  pub reads-in : (b c : ℕ) → Maps (s .reads) b c → c < s .sizes .c
+  pub reads-in : (b c : ℕ) → Maps (s .reads) b c → c < body (s .sizes)
   reads-in b c m = in-place c (omega (arith, maps-times (s .reads) b c m))
 
-  pub writes-in : (b c : ℕ) → Maps (s .writes) b c → c < s .sizes .c
+  pub writes-in : (b c : ℕ) → Maps (s .writes) b c → c < body (s .sizes)
   writes-in b c m = in-place c (omega (arith, maps-times (s .writes) b c m))
 
-  back-of : (b c e : ℕ) → e ≡ c → c < s .sizes .c → used (s .sizes) d e ≡ true → backOf (s .sizes) d e ≡ b → b < s .sizes .b
+  back-of : (b c e : ℕ) → e ≡ c → c < body (s .sizes) → used (s .sizes) d e ≡ true → backOf (s .sizes) d e ≡ b → b < s .sizes .b
   back-of b c e q hc u h = rw (← h) (back-below z d formed (bounds .p-low) e (rw q hc) u)
 
   pub read-back : (b c : ℕ) → Maps (s .reads) b c → b < s .sizes .b

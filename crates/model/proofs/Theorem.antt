@@ -7,8 +7,8 @@ use Rattle.model.specs.declared.Answer.the-variants.{Done}
 use Rattle.model.specs.Sizes.{Device, limits}
 use Rattle.model.specs.State.{State}
 use Rattle.model.specs.Calls.{Call, formatCall, readCall, writeCall, eraseCall, drainCall, recoverCall, call}
-use Rattle.model.specs.Promise.{MayStand, NothingLost}
-use Rattle.model.specs.Companions.{Always, NeverDistrusted, DrainedDiskIsPlain}
+use Rattle.model.specs.Promise.{MayStand, Claim, Always, AlwaysHolds, Promised, NothingLost}
+use Rattle.model.specs.Companions.{Trusted, Drained, NeverDistrusted, DrainedDiskIsPlain}
 use Rattle.model.proofs.Safe.{Inv, Pays}
 use Rattle.model.proofs.Calling.{erase-pays, read-gives}
 use Rattle.model.proofs.Format.{formatted-inv}
@@ -16,7 +16,7 @@ use Rattle.model.proofs.Read.{read-pays}
 use Rattle.model.proofs.Write.{write-pays}
 use Rattle.model.proofs.Drain.{drain-pays, drain-settles}
 use Rattle.model.proofs.Recover.{recover-pays}
-use Rattle.model.proofs.Induction.{Owing, holds, throughout, formatted}
+use Rattle.model.proofs.Induction.{Each, Owing, promised, throughout, formatted}
 use Rattle.model.proofs.Companions.{trusted, drained}
 
 pays : (z : Sizes) (k : Call) → MayStand z k → Pays z k
@@ -38,20 +38,21 @@ start z n s d h =
     let f = formatted z n s d h in
     rw (f .state-is, f .device-is) (formatted-inv z (f .within-limits) d (f .whole-lent))
 
+-- a claim about each call is one about every list
+always : (claim : Claim) → ((z : Sizes) (fits : limits z ≡ true) → Each z claim) → AlwaysHolds claim
+unfolding AlwaysHolds Always
+always claim each z n s d xs h =
+    let fits = formatted z n s d h .within-limits in
+    throughout z fits (owing z fits) claim (each z fits) xs _ _ (d .disk) (start z n s d h)
+
 pub nothing-lost : NothingLost
 unfolding NothingLost
-nothing-lost z n s d xs h l =
-    let fits = formatted z n s d h .within-limits in
-    holds z fits (owing z fits) xs l _ _ (d .disk) (start z n s d h)
+nothing-lost = always Promised (λ z fits. promised z fits (owing z fits))
 
 pub never-distrusted : NeverDistrusted
-unfolding NeverDistrusted Always
-never-distrusted z n s d xs h l =
-    let fits = formatted z n s d h .within-limits in
-    throughout z fits (owing z fits) _ (trusted z fits) xs l _ _ (d .disk) (start z n s d h)
+unfolding NeverDistrusted
+never-distrusted = always Trusted trusted
 
 pub drained-disk-is-plain : DrainedDiskIsPlain
-unfolding DrainedDiskIsPlain Always
-drained-disk-is-plain z n s d xs h l =
-    let fits = formatted z n s d h .within-limits in
-    throughout z fits (owing z fits) _ (drained z (drain-settles z fits)) xs l _ _ (d .disk) (start z n s d h)
+unfolding DrainedDiskIsPlain
+drained-disk-is-plain = always Drained (λ z fits. drained z (drain-settles z fits))

@@ -8,15 +8,15 @@ use lib.ListN.{length}
 use Rattle.lists.specs.Lists.{times, concatMap}
 use Rattle.lists.proofs.Counts.{times-self, times-other, times-cons}
 use Rattle.model.specs.declared.Sizes.{Sizes}
-use Rattle.model.specs.Sizes.{Device, bucketSize}
+use Rattle.model.specs.Sizes.{Device, bucketSize, body}
 use Rattle.model.specs.Stores.{Store, erase, applyAll, diskBytes, unitStores}
 use Rattle.model.proofs.Safe.{Safe, Chip, Sound, Along, Ready}
-use Rattle.model.proofs.Bounds.{Bounds}
+use Rattle.model.proofs.Limits.{Limits}
 use Rattle.model.proofs.Prefix.{applyAll-append, along-start, along-append}
 use Rattle.model.proofs.Show.{Same, same-refl, same-trans}
 use Rattle.model.proofs.Units.{Allowed, Written, units-along, units-written}
 
-module _ (z : Sizes) (B : Bounds z) (plain : List ℕ) (gs : List ℕ) (gs-in : (x : ℕ) → 1 ≤ times x gs → x < z .c) (bytes : ℕ → List ℕ) where
+module _ (z : Sizes) (B : Limits z) (plain : List ℕ) (gs : List ℕ) (gs-in : (x : ℕ) → 1 ≤ times x gs → x < z .c) (bytes : ℕ → List ℕ) where
   abbrev unitsOf : List ℕ → List Store
   unitsOf l = concatMap (λ b. unitStores z b (bytes b)) l
 

@@ -12,12 +12,12 @@ use Rattle.lists.specs.Lists.{times, part, splice}
 use Rattle.lists.proofs.Tests.{and-left}
 use Rattle.lists.proofs.Parts.{At, at, outside, inside, getD-part, length-part-fits}
 use Rattle.model.specs.declared.Sizes.{Sizes}
-use Rattle.model.specs.Sizes.{Device, bucketSize}
+use Rattle.model.specs.Sizes.{Device, bucketSize, body}
 use Rattle.model.specs.Stores.{Store, erase, unit, apply, applyAll, diskBytes, unitStore, unitStores}
 use Rattle.model.specs.Image.{used, epochOf, isDirty, isCopy, complete}
 use Rattle.model.proofs.Views.{Newest, SafeAt, safe-still, safe-any-disk}
 use Rattle.model.proofs.Safe.{holdsOf, view, plainAt, Safe, Chip, Sound, Along, Ready}
-use Rattle.model.proofs.Bounds.{Bounds}
+use Rattle.model.proofs.Limits.{Limits}
 use Rattle.model.proofs.Frames.{Lengths, Fits, row-fits, place-fits, tag-erased, unit-in-bucket, length-disk, disk-written, disk-other}
 use Rattle.model.proofs.Runs.{Stepwise, Run, run-end, run-along}
 use Rattle.model.proofs.Show.{Same, same-refl, same-trans, epochOf-same, isDirty-same, holds-same, quiet-same, kept-same, same-erase, same-unit}
@@ -29,7 +29,7 @@ holds-used : (z : Sizes) (d : Device) (c b : ℕ) → holdsOf z d c b ≡ true �
 unfolding complete isCopy
 holds-used z d c b h = and-left (used z d c) _ (and-left (isCopy z d c) _ (holds-parts z d c b h .1))
 
-module _ (z : Sizes) (bounds : Bounds z) (plain : List ℕ) (gs : List ℕ) (gs-in : (x : ℕ) → 1 ≤ times x gs → x < z .c)
+module _ (z : Sizes) (bounds : Limits z) (plain : List ℕ) (gs : List ℕ) (gs-in : (x : ℕ) → 1 ≤ times x gs → x < z .c)
     (b : ℕ) (hb : b < z .b) (bytes : List ℕ) (len : length bytes ≡ bucketSize z) where
   -- why the units of b may be written: the bytes are the plain disk's, or b's newest copy, which stays, is Dirty
   pub data Allowed (d : Device) : Type 0 where
@@ -132,7 +132,7 @@ module _ (z : Sizes) (bounds : Bounds z) (plain : List ℕ) (gs : List ℕ) (gs-
 
       older : (c' : ℕ) → holdsOf z after' c' b ≡ true → Dec (c' ≡ x) → epochOf z after' c' ≤ epochOf z after' c
       older c' h (yes q) = absurd (true≢false (sym h ∙ ap (λ (y : ℕ). holdsOf z after' y b) q
-          ∙ blank-holds z after' x (tag-erased z d (chip-lengths z chip) x (gs-in x hx) 0 (bounds .p-low)) b))
+          ∙ blank-holds z after' x (bounds .p-low) (tag-erased z d (chip-lengths z chip) x (gs-in x hx)) b))
       older c' h (no ne) =
           let u = epochOf-same z (bounds .p-low) d after' c' (alike' c' ne) in
           let v = epochOf-same z (bounds .p-low) d after' c (alike' c stays) in

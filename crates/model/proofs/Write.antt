@@ -18,10 +18,10 @@ use Rattle.model.specs.Stores.{applyAll}
 use Rattle.model.specs.Image.{blanks}
 use Rattle.model.specs.State.{State, entry, holds, cacheOf, without}
 use Rattle.model.specs.Steps.{nothing, _then_, makeRoom, evict}
-use Rattle.model.specs.Operations.{lastEpoch, goesFirst, leastOf, victim, fits, makeWay, startLog, write}
+use Rattle.model.specs.Operations.{lastEpoch, goesFirst, leastOf, victim, fits, makeWay, startLog, write, outgoing, evictAny}
 use Rattle.model.specs.Calls.{writeCall, tests, refusal, planOf, isDone}
 use Rattle.model.specs.Promise.{feed, diskPlace}
-use Rattle.model.proofs.Bounds.{Bounds, bounds-of}
+use Rattle.model.proofs.Limits.{Limits, limits-of}
 use Rattle.model.proofs.Safe.{Inv, Owed, Pays}
 use Rattle.model.proofs.Queues.{Maps, absent, maps-here, holds-there, absent-without, maps-without, cachesOf-one, length-without}
 use Rattle.model.proofs.Inside.{Inside}
@@ -59,13 +59,10 @@ module _ (z : Sizes) (d : Device) where
       go true h k = holds-later best (e ∷ l) _ h
       go false h k = holds-behind best e l _ k
 
-  pub victim-in : (s : State) → 1 ≤ length (s .writes) → holds (victim z d s) (s .writes) ≡ true
+  pub victim-in : (l : List Entry) → 1 ≤ length l → holds (victim z d l) l ≡ true
   unfolding victim
-  victim-in s h = go (s .writes) h
-    where
-      go : (l : List Entry) → 1 ≤ length l → holds (leastOf z d (getD l 0 (entry 0 0 0)) (drop 1 l) .back) l ≡ true
-      go [] q = absurd (omega arith)
-      go (e ∷ l) q = least-in e l
+  victim-in [] h = absurd (omega arith)
+  victim-in (e ∷ l) h = least-in e l
 
 -- ---- room in the write queue
 
@@ -75,7 +72,7 @@ record Open (z : Sizes) (b : ℕ) (s t : State) : Type 0 where
   fewer : length (t .writes) < z .w
   next-near : t .next ≤ s .next + 1
 
-module _ (z : Sizes) (B : Bounds z) (plain : List ℕ) (s : State) (d : Device) (j : Inside z plain s d) (next-room : s .next ≤ lastEpoch) (b : ℕ) where
+module _ (z : Sizes) (B : Limits z) (plain : List ℕ) (s : State) (d : Device) (j : Inside z plain s d) (next-room : s .next ≤ lastEpoch) (b : ℕ) where
   still-absent : (v : ℕ) → holds b (s .writes) ≡ false → holds b (without v (s .writes)) ≡ false
   still-absent v n = go (true-or-false (holds b (without v (s .writes))))
     where
@@ -88,10 +85,10 @@ module _ (z : Sizes) (B : Bounds z) (plain : List ℕ) (s : State) (d : Device) 
     maps-v : Maps (s .writes) v (cacheOf v (s .writes))
     maps-v = record { held = h; is = refl }
 
-    evicts : Good z plain (evict z d v s) d
+    evicts : Good z plain (evict z v s d) d
     evicts = evict-good z B plain s d j v (cacheOf v (s .writes)) maps-v (omega arith)
 
-    opens : holds b (without v (s .writes)) ≡ false → Open z b s (evict z d v s .state)
+    opens : holds b (without v (s .writes)) ≡ false → Open z b s (evict z v s d .state)
     opens n =
         let e = evicted z B plain s d j v (cacheOf v (s .writes)) maps-v (omega arith) in
         record {
@@ -100,38 +97,39 @@ module _ (z : Sizes) (B : Bounds z) (plain : List ℕ) (s : State) (d : Device) 
           next-near = e .next-near;
         }
 
-  way-made : Good z plain (makeWay z d b s) d × Open z b s (makeWay z d b s .state)
-  unfolding makeWay nothing
+  way-made : Good z plain (makeWay z b s d) d × Open z b s (makeWay z b s d .state)
+  unfolding makeWay outgoing evictAny nothing
   way-made = go (true-or-false (holds b (s .writes))) (true-or-false (leb (z .w) (length (s .writes))))
     where
       go : (holds b (s .writes) ≡ true) ⊎ (holds b (s .writes) ≡ false) → (leb (z .w) (length (s .writes)) ≡ true) ⊎ (leb (z .w) (length (s .writes)) ≡ false)
-          → Good z plain (makeWay z d b s) d × Open z b s (makeWay z d b s .state)
+          → Good z plain (makeWay z b s d) d × Open z b s (makeWay z b s d .state)
       go (inl h) q = rw h (evicts b h, opens b h (absent-without (s .writes) b))
       go (inr n) (inl q) =
-          let v = victim-in z d s (omega (arith, leb-true (z .w) (length (s .writes)) q, B .w-low)) in
-          rw (n, q) (evicts (victim z d s) v, opens (victim z d s) v (still-absent (victim z d s) n))
-      go (inr n) (inr q) = rw (n, q) (nothing-good z plain s d j, record { absent-now = n; fewer = leb-false (z .w) (length (s .writes)) q; next-near = omega arith })
+          let v = victim-in z d (s .writes) (omega (arith, leb-true (z .w) (length (s .writes)) q, B .w-low)) in
+          rw (n, q) (evicts (victim z d (s .writes)) v, opens (victim z d (s .writes)) v (still-absent (victim z d (s .writes)) n))
+      go (inr n) (inr q) = rw (n, q) (nothing-good z plain s d d j, record { absent-now = n; fewer = leb-false (z .w) (length (s .writes)) q; next-near = omega arith })
 
   -- ---- the write
 
   module _ (off : ℕ) (bytes : List ℕ) (range : Range z b off (length bytes)) where
-    anew : Moves z plain (splice plain (diskPlace z b off) bytes) (makeWay z d b s then makeRoom then startLog z d b off bytes) d
-    unfolding _then_
+    anew : Moves z plain (splice plain (diskPlace z b off) bytes) ((makeWay z b then makeRoom z then startLog z b off bytes) s d) d
     anew =
         let way = way-made in
-        let t = makeWay z d b s .state in
-        let e = applyAll z d (makeWay z d b s .stores) in
+        let t = makeWay z b s d .state in
+        let e = applyAll z d (makeWay z b s d .stores) in
         let room = room-made z (B .p-low) plain t e (way .0 .1) (B .room) in
-        let both = then-good z plain (makeWay z d b s) makeRoom d (way .0) (room-good z (B .p-low) plain t e (way .0 .1)) in
-        then-moves z plain (splice plain (diskPlace z b off) bytes) (makeWay z d b s then makeRoom) (startLog z d b off bytes) d both
-        (start-moves z B plain (makeRoom t .state) _ (both .1) b off bytes range (room .has-free)
-        (ap (holds b) (room .writes-same) ∙ way .1 .absent-now) (rw (room .writes-same) (way .1 .fewer)) (omega (arith, room .next-same, way .1 .next-near)) d)
+        let good = room-good z (B .p-low) plain t e (way .0 .1) in
+        let after = splice plain (diskPlace z b off) bytes in
+        then-moves z plain after (makeWay z b) (makeRoom z then startLog z b off bytes) s d (j .sizes-are) (way .0)
+        (then-moves z plain after (makeRoom z) (startLog z b off bytes) t e (way .0 .1 .sizes-are) good
+        (start-moves z B plain (makeRoom z t e .state) _ (good .1) b off bytes range (room .has-free)
+        (ap (holds b) (room .writes-same) ∙ way .1 .absent-now) (rw (room .writes-same) (way .1 .fewer)) (omega (arith, room .next-same, way .1 .next-near)) _))
 
-    pub write-moves : Moves z plain (splice plain (diskPlace z b off) bytes) (write z d b off bytes s) d
+    pub write-moves : Moves z plain (splice plain (diskPlace z b off) bytes) (write z b off bytes s d) d
     unfolding write fits
     write-moves = go (true-or-false (fits z d b (pagesFor z (length bytes)) s))
       where
-        go : (fits z d b (pagesFor z (length bytes)) s ≡ true) ⊎ (fits z d b (pagesFor z (length bytes)) s ≡ false) → Moves z plain (splice plain (diskPlace z b off) bytes) (write z d b off bytes s) d
+        go : (fits z d b (pagesFor z (length bytes)) s ≡ true) ⊎ (fits z d b (pagesFor z (length bytes)) s ≡ false) → Moves z plain (splice plain (diskPlace z b off) bytes) (write z b off bytes s d) d
         go (inl q) = rw q (append-moves z B plain s d j b off bytes range
             (and-left (holds b (s .writes)) (leb (pagesFor z (length bytes)) (blanks z d (cacheOf b (s .writes)))) q)
             (leb-true _ _ (and-right (holds b (s .writes)) (leb (pagesFor z (length bytes)) (blanks z d (cacheOf b (s .writes)))) q)))
@@ -155,5 +153,5 @@ write-pays z b off bytes s d plain fit i r =
     own : limits (s .sizes) ≡ true → Inv (s .sizes) s d plain → Owed (s .sizes) (writeCall b off bytes) s d plain
     own f i' =
         let pass = write-passed s d b off bytes r in
-        let m = write-moves (s .sizes) (bounds-of (s .sizes) f) plain s d (inside (s .sizes) s d plain i' (pass .0 .runs)) (pass .2) b off bytes (pass .1) in
+        let m = write-moves (s .sizes) (limits-of (s .sizes) f) plain s d (inside (s .sizes) s d plain i' (pass .0 .runs)) (pass .2) b off bytes (pass .1) in
         record { cuts = m .cuts; whole = outside (s .sizes) _ _ _ (m .whole) }

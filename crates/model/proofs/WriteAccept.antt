@@ -14,9 +14,9 @@ use Rattle.model.specs.declared.Sizes.{Sizes}
 use Rattle.model.specs.declared.Entry.{Entry}
 use Rattle.model.specs.Sizes.{Device}
 use Rattle.model.specs.Stores.{Store, apply, applyAll}
-use Rattle.model.specs.State.{State, entry, isOf, caches}
-use Rattle.model.specs.Steps.{Plan, _then_}
-use Rattle.model.specs.Operations.{halved, prioritised, accept}
+use Rattle.model.specs.State.{State, entry, isOf, caches, moved}
+use Rattle.model.specs.Steps.{Plan, Step, _then_}
+use Rattle.model.specs.Operations.{halved, prioritised, accept, counted, recorded}
 use Rattle.model.proofs.Safe.{Along, Sound}
 use Rattle.model.proofs.Prefix.{applyAll-append}
 use Rattle.model.proofs.QueuesGrown.{Keeps, caches-map}
@@ -37,13 +37,15 @@ cuts-behind z Q d [] ts a c n h = c n h
 cuts-behind z Q d (s ∷ ss) ts a c zero h = a .0
 cuts-behind z Q d (s ∷ ss) ts a c (suc n) h = cuts-behind z Q (apply z d s) ss ts (a .1) c n (omega arith)
 
-pub then-moves : (z : Sizes) (plain plain' : List ℕ) (p : Plan) (f : State → Plan) (d : Device) → Good z plain p d → Moves z plain plain' (f (p .state)) (applyAll z d (p .stores))
-    → Moves z plain plain' (p then f) d
+pub then-moves : (z : Sizes) (plain plain' : List ℕ) (f g : Step) (s : State) (d : Device) → s .sizes ≡ z → Good z plain (f s d) d
+    → Moves z plain plain' (g (f s d .state) (applyAll z d (f s d .stores))) (applyAll z d (f s d .stores)) → Moves z plain plain' ((f then g) s d) d
 unfolding _then_
-then-moves z plain plain' p f d g m = record {
-  cuts = cuts-behind z (Sound z plain) d (p .stores) (f (p .state) .stores) (g .0) (m .cuts);
-  whole = subst (λ (e : Device). Inside z plain' (f (p .state) .state) e) (sym (applyAll-append z d (p .stores) (f (p .state) .stores))) (m .whole);
-}
+then-moves z plain plain' f g s d e a m =
+    subst (λ (y : Sizes). Moves z plain plain' (record { stores = f s d .stores ++ g (f s d .state) (applyAll y d (f s d .stores)) .stores; state = g (f s d .state) (applyAll y d (f s d .stores)) .state }) d) (sym e) (record {
+      cuts = cuts-behind z (Sound z plain) d (f s d .stores) (g (f s d .state) (applyAll z d (f s d .stores)) .stores) (a .0) (m .cuts);
+      whole = subst (λ (x : Device). Inside z plain' (g (f s d .state) (applyAll z d (f s d .stores)) .state) x)
+          (sym (applyAll-append z d (f s d .stores) (g (f s d .state) (applyAll z d (f s d .stores)) .stores))) (m .whole);
+    })
 
 -- ---- priorities
 
@@ -91,7 +93,7 @@ module _ (z : Sizes) where
   }
 
   pub accept-inside : (plain : List ℕ) (b p : ℕ) → p ≤ z .p → (s : State) (d : Device) → Inside z plain s d → Inside z plain (accept b p s) d
-  unfolding accept
+  unfolding accept counted recorded moved
   accept-inside plain b p hp s d j = record {
     sizes-are = j .sizes-are;
     plain-length = j .plain-length;

@@ -13,7 +13,7 @@ use Rattle.lists.specs.Lists.{head, empty, times, splice, ff}
 use Rattle.lists.proofs.Parts.{length-splice}
 use Rattle.lists.proofs.Counts.{times-self, times-rest}
 use Rattle.model.specs.declared.Sizes.{Sizes}
-use Rattle.model.specs.Sizes.{Device, bucketSize, pagesFor}
+use Rattle.model.specs.Sizes.{Device, bucketSize, pagesFor, body}
 use Rattle.model.specs.Stores.{tagOf}
 use Rattle.model.specs.Spare.{writeKind}
 use Rattle.model.specs.Image.{epochOf, backOf, isWrite, blanks}
@@ -21,7 +21,7 @@ use Rattle.model.specs.State.{State, moved, entry, holds, cacheOf, cache
 use Rattle.model.specs.Steps.{taken}
 use Rattle.model.specs.Operations.{takeWrite, appendLog, startLog}
 use Rattle.model.specs.Promise.{diskPlace}
-use Rattle.model.proofs.Bounds.{Bounds, pages-fit}
+use Rattle.model.proofs.Limits.{Limits, pages-fit, on-chip}
 use Rattle.model.proofs.Safe.{givesOf}
 use Rattle.model.proofs.Frames.{row-fits}
 use Rattle.model.proofs.Show.{Same, epochOf-same, backOf-same, isWrite-same, gives-same}
@@ -38,7 +38,7 @@ use Rattle.model.proofs.Inside.{Inside, in-chip, one-place, gc-below}
 use Rattle.model.proofs.Calling.{Range}
 use Rattle.model.proofs.WriteAccept.{Moves, accept-inside}
 
-module _ (z : Sizes) (B : Bounds z) (plain : List ℕ) (s : State) (d : Device) (j : Inside z plain s d) (b off : ℕ) (bytes : List ℕ) (range : Range z b off (length bytes)) where
+module _ (z : Sizes) (B : Limits z) (plain : List ℕ) (s : State) (d : Device) (j : Inside z plain s d) (b off : ℕ) (bytes : List ℕ) (range : Range z b off (length bytes)) where
   abbrev after : List ℕ
   after = splice plain (diskPlace z b off) bytes
 
@@ -63,7 +63,7 @@ module _ (z : Sizes) (B : Bounds z) (plain : List ℕ) (s : State) (d : Device) 
     w-times : 1 ≤ times w (caches (s .writes))
     w-times = maps-times (s .writes) b w m
 
-    w-in : w < z .c
+    w-in : w < body z
     w-in = in-chip z plain s d j w (omega (arith, w-times))
 
     not-w : (x : ℕ) → 1 ≤ times x (caches (s .reads)) + times x (s .gc) + times x (s .free) → x ≢ w
@@ -115,7 +115,7 @@ module _ (z : Sizes) (B : Bounds z) (plain : List ℕ) (s : State) (d : Device) 
         next-high = j .next-high;
       }
         where
-          above : (x : ℕ) → x < z .c → Dec (x ≡ w) → epochOf z f x < s .next
+          above : (x : ℕ) → x < body z → Dec (x ≡ w) → epochOf z f x < s .next
           above x hx (yes q) = rw (q, run .age) (j .next-above w w-in)
           above x hx (no ne) = rw (epochOf-same z (B .p-low) d f x (run .still x ne)) (j .next-above x hx)
 
@@ -143,7 +143,7 @@ module _ (z : Sizes) (B : Bounds z) (plain : List ℕ) (s : State) (d : Device) 
     rest-blank k h hk = blank-end z d w (λ i hi. chip-formed z (j .chip) .pages-fit w i w-in hi) k h hk
 
   pub append-moves : holds b (s .writes) ≡ true → pagesFor z (length bytes) ≤ blanks z d (cacheOf b (s .writes))
-      → Moves z plain (splice plain (diskPlace z b off) bytes) (appendLog z d b off bytes s) d
+      → Moves z plain (splice plain (diskPlace z b off) bytes) (appendLog z b off bytes s d) d
   unfolding appendLog
   append-moves h fit =
       let w = cacheOf b (s .writes) in
@@ -168,7 +168,7 @@ module _ (z : Sizes) (B : Bounds z) (plain : List ℕ) (s : State) (d : Device) 
     c-free : 1 ≤ times (head (s .free)) (s .free)
     c-free = omega (arith, count c, times-self c)
 
-    c-in : head (s .free) < z .c
+    c-in : head (s .free) < body z
     c-in = in-chip z plain s d j c (omega (arith, c-free))
 
     not-c : (x : ℕ) → 1 ≤ times x (caches (s .reads)) + times x (caches (s .writes)) + times x (s .gc) + times x (drop 1 (s .free)) → x ≢ head (s .free)
@@ -189,9 +189,9 @@ module _ (z : Sizes) (B : Bounds z) (plain : List ℕ) (s : State) (d : Device) 
     }
 
     newest : (x i : ℕ) → x ≢ head (s .free) → (givesOf z d x b i ≡ none) ⊎ (epochOf z d x ≤ s .next)
-    newest x i ne = go (decLt x (z .c))
+    newest x i ne = go (decLt x (body z))
       where
-        go : Dec (x < z .c) → (givesOf z d x b i ≡ none) ⊎ (epochOf z d x ≤ s .next)
+        go : Dec (x < body z) → (givesOf z d x b i ≡ none) ⊎ (epochOf z d x ≤ s .next)
         go (yes u) = inr (omega (arith, j .next-above x u))
         go (no u) = inl (gives-beyond z d x (omega arith) b i)
 
@@ -230,14 +230,14 @@ module _ (z : Sizes) (B : Bounds z) (plain : List ℕ) (s : State) (d : Device) 
         next-high = omega arith;
       }
         where
-          above : (x : ℕ) → x < z .c → Dec (x ≡ c) → epochOf z f x < s .next + 1
+          above : (x : ℕ) → x < body z → Dec (x ≡ c) → epochOf z f x < s .next + 1
           above x hx (yes q) = rw (q, run .age) (omega arith)
           above x hx (no ne) = rw (epochOf-same z (B .p-low) d f x (run .still x ne)) (omega (arith, j .next-above x hx))
 
     gc-not-c : (x : ℕ) → 1 ≤ times x (s .gc) → (x < z .c) × (head (s .free) ≢ x)
     gc-not-c x t = (gc-below z plain s d j x t, λ q. not-c x (omega arith) (sym q))
 
-    pub start-moves : (d₀ : Device) → Moves z plain (splice plain (diskPlace z b off) bytes) (startLog z d₀ b off bytes s) d
+    pub start-moves : (d₀ : Device) → Moves z plain (splice plain (diskPlace z b off) bytes) (startLog z b off bytes s d₀) d
     unfolding startLog
     start-moves d₀ =
         let done = log-done z B c 0 (s .next) b off bytes start-log d (j .chip) (fresh refl (j .next-above)) plain room (s .gc) gc-not-c (λ k h hk. j .free-blank c c-free k hk) newest (j .ready) in

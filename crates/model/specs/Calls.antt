@@ -8,6 +8,7 @@ use Rattle.lists.specs.Lists.{if_then_else_, empty, part}
 use Rattle.model.specs.declared.Sizes.{Sizes}
 use Rattle.model.specs.declared.Answer.{Answer}
 use Rattle.model.specs.declared.Answer.the-variants.{Done, Idle, Cut, Refused}
+use Rattle.model.specs.Tests.{Test, firstFailed}
 use Rattle.model.specs.Sizes.{Device, limits, lengths, bucketSize, flashSize, pageIndex}
 use Rattle.model.specs.Stores.{applyAll}
 use Rattle.model.specs.Image.{wellFormed}
@@ -45,15 +46,7 @@ pub record Outcome : Type 0 where
   pub device : Device
   pub buffer : List ℕ
 
--- ---- where a call is turned down: (number, what must hold), in the table's order
-
-abbrev pub Test : Type 0
-Test = ℕ × Bool
-
--- the number of the first test that fails, or 0
-unfoldable pub firstFailed : List Test → ℕ
-firstFailed [] = 0
-firstFailed (t ∷ ts) = if t .1 then firstFailed ts else t .0
+-- ---- where a call is turned down
 
 -- "every entry: sizes", "buffers"
 unfoldable pub lentTests : Sizes → Device → List Test
@@ -95,10 +88,10 @@ sizesOf (recoverCall z) s = z
 
 unfoldable pub planOf : Call → State → Device → Plan
 planOf (formatCall z) s d = format z
-planOf (readCall b off buffer) s d = read (s .sizes) d b s
-planOf (writeCall b off bytes) s d = write (s .sizes) d b off bytes s
-planOf eraseCall s d = eraseStep s
-planOf drainCall s d = drain (s .sizes) d s
+planOf (readCall b off buffer) s d = read (s .sizes) b s d
+planOf (writeCall b off bytes) s d = write (s .sizes) b off bytes s d
+planOf eraseCall s d = eraseStep (s .sizes) s d
+planOf drainCall s d = drain (s .sizes) s d
 planOf (recoverCall z) s d = recover z d
 
 -- "Idle, with no store, if and only if the GC queue is empty"
@@ -139,20 +132,22 @@ carryOut n k s d p =
 unfoldable pub turnedDown : ℕ → Call → State → Device → Outcome
 turnedDown r k s d = record { answer = Refused r; stores = 0; state = s; device = d; buffer = lentBuffer k }
 
+-- a call that fails the test of number r, or none with 0, and whose plan is p
+abbrev pub decide : ℕ → Call → State → Device → (r : ℕ) → Plan → Outcome
+decide n k s d r p = if eqb r 0 then carryOut n k s d p else turnedDown r k s d
+
 -- a call with an allowance of n stores
 unfoldable pub call : ℕ → Call → State → Device → Outcome
-call n k s d = if eqb (refusal k s d) 0 then carryOut n k s d (planOf k s d) else turnedDown (refusal k s d) k s d
+call n k s d = decide n k s d (refusal k s d) (planOf k s d)
 
 -- ---- page look: "the page's own S bytes in the lent flash, or an empty part with a refusal"
 
-unfoldable pub lookTests : Sizes → List ℕ → (c k : ℕ) → List Test
-lookTests z flash c k = (1, limits z) ∷ (2, eqb (length flash) (flashSize z)) ∷ (6, ltb c (z .c) && ltb k (z .p)) ∷ []
+module _ (z : Sizes) (flash : List ℕ) (c k : ℕ) where
+  unfoldable pub lookTests : List Test
+  lookTests = (1, limits z) ∷ (2, eqb (length flash) (flashSize z)) ∷ (6, ltb c (z .c) && ltb k (z .p)) ∷ []
 
-unfoldable pub lookAnswer : State → List ℕ → (c k : ℕ) → Answer
-lookAnswer s flash c k =
-    let r = firstFailed (lookTests (s .sizes) flash c k) in
-    if eqb r 0 then Done else Refused r
+  unfoldable pub lookAnswer : Answer
+  lookAnswer = if eqb (firstFailed lookTests) 0 then Done else Refused (firstFailed lookTests)
 
-unfoldable pub lookBytes : State → List ℕ → (c k : ℕ) → List ℕ
-lookBytes s flash c k =
-    if eqb (firstFailed (lookTests (s .sizes) flash c k)) 0 then part flash (pageIndex (s .sizes) c k * s .sizes .s) (s .sizes .s) else []
+  unfoldable pub lookBytes : List ℕ
+  lookBytes = if eqb (firstFailed lookTests) 0 then part flash (pageIndex z c k * z .s) (z .s) else []

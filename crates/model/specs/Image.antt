@@ -5,7 +5,7 @@ use mathlib.Core.List.{List, [], _∷_, map}
 use lib.Dec.{leb, ltb, eqb}
 use Rattle.lists.specs.Lists.{if_then_else_, every, within, below, allBelow, countBelow, keep, distinct, splice, part}
 use Rattle.model.specs.declared.Sizes.{Sizes}
-use Rattle.model.specs.Sizes.{Device, bucketSize, pagesFor}
+use Rattle.model.specs.Sizes.{Device, bucketSize, body, pagesFor}
 use Rattle.model.specs.Stores.{tagOf, bucketBytes}
 use Rattle.model.specs.Spare.{blank, writeKind, dirtyKind, kind, ordinal, pages, epoch, back, offset, extent, zeros}
 
@@ -51,32 +51,36 @@ module _ (z : Sizes) where
   unfoldable pub bucketFits : Device → ℕ → Bool
   bucketFits d c = allBelow (z .p) (pageFits d c)
 
+  -- the page that speaks for its bucket
+  unfoldable pub headTag : Device → ℕ → List ℕ
+  headTag d c = tagOf z d c 0
+
   -- a bucket with a programmed page
   unfoldable pub used : Device → ℕ → Bool
-  used d c = not (blank (tagOf z d c 0))
+  used d c = not (blank (headTag d c))
 
   -- its epoch, or 0 if it has none
   unfoldable pub epochOf : Device → ℕ → ℕ
-  epochOf d c = if used d c then epoch (tagOf z d c 0) else 0
+  epochOf d c = if used d c then epoch (headTag d c) else 0
 
   -- number 4: "An image is well formed, made by the page rules, when .. no two buckets share an epoch."
   unfoldable pub wellFormed : Device → Bool
-  wellFormed d = allBelow (z .c) (bucketFits d) && distinct (map (epochOf d) (keep (used d) (below (z .c))))
+  wellFormed d = allBelow (body z) (bucketFits d) && distinct (map (epochOf d) (keep (used d) (below (body z))))
 
   -- ---- what a bucket is
 
   unfoldable pub backOf : Device → ℕ → ℕ
-  backOf d c = back (tagOf z d c 0)
+  backOf d c = back (headTag d c)
 
   unfoldable pub isWrite : Device → ℕ → Bool
-  isWrite d c = used d c && eqb (kind (tagOf z d c 0)) writeKind
+  isWrite d c = used d c && eqb (kind (headTag d c)) writeKind
 
   -- a Read or Dirty bucket
   unfoldable pub isCopy : Device → ℕ → Bool
-  isCopy d c = used d c && not (eqb (kind (tagOf z d c 0)) writeKind)
+  isCopy d c = used d c && not (eqb (kind (headTag d c)) writeKind)
 
   unfoldable pub isDirty : Device → ℕ → Bool
-  isDirty d c = eqb (kind (tagOf z d c 0)) dirtyKind
+  isDirty d c = eqb (kind (headTag d c)) dirtyKind
 
   -- "A Read or Dirty bucket is complete when all P pages are programmed."
   unfoldable pub complete : Device → ℕ → Bool

@@ -1,18 +1,20 @@
--- Write, read, drain and format: each a plan.
+-- Write, read, drain and format: each a step, or a plan from nothing.
 use Prim.Native.Nat.{ℕ, _+_, _-_, _/_}
-use mathlib.Core.Bool.{Bool, true, not, _&&_, _||_}
+use mathlib.Core.Bool.{Bool, not, _&&_, _||_}
 use mathlib.Core.List.{List, [], _∷_, _++_, map}
 use lib.ListN.{length, drop, getD}
 use lib.Dec.{leb, ltb, eqb}
 use Rattle.lists.specs.Lists.{if_then_else_, below, head, keep, concatMap, sortBy}
 use Rattle.model.specs.declared.Sizes.{Sizes}
 use Rattle.model.specs.declared.Entry.{Entry}
-use Rattle.model.specs.Sizes.{Device, pagesFor}
+use Rattle.model.specs.declared.Victim.{Victim}
+use Rattle.model.specs.declared.Victim.the-variants.{Nobody, Bucket}
+use Rattle.model.specs.Sizes.{Device, body, pagesFor}
 use Rattle.model.specs.Stores.{Store, erase, bucketBytes, unitStores}
 use Rattle.model.specs.Spare.{readKind, writeKind, dirtyKind}
 use Rattle.model.specs.Image.{epochOf, isDirty, blanks}
-use Rattle.model.specs.State.{State, moved, entry, isOf, holds, cacheOf, cachesOf, without, caches}
-use Rattle.model.specs.Steps.{Plan, nothing, _then_, move, makeRoom, taken, logStores, merged, copy, evict}
+use Rattle.model.specs.State.{State, moved, numbered, started, entry, isOf, holds, cacheOf, cachesOf, without, caches}
+use Rattle.model.specs.Steps.{Plan, Step, nothing, _then_, move, makeRoom, taken, logStores, merged, copy, evict}
 
 -- "fewer than two epochs left"; the last next epoch at which a write is taken
 abbrev pub lastEpoch : ℕ
@@ -27,25 +29,29 @@ halved e = entry (e .back) (e .cache) (e .priority / 2)
 unfoldable pub prioritised : ℕ → ℕ → Entry → Entry
 prioritised b p e = if isOf b e then entry b (e .cache) p else e
 
--- "Priority becomes the blank pages left. After every 16th accepted write since format or recovery all priorities are halved."
-unfoldable pub accept : (b priority : ℕ) → State → State
-accept b p s =
+-- "Priority becomes the blank pages left."
+unfoldable pub recorded : (b priority : ℕ) → State → State
+recorded b p s = moved s (s .reads) (map (prioritised b p) (s .writes)) (s .gc) (s .free)
+
+-- "After every 16th accepted write since format or recovery all priorities are halved."
+unfoldable pub counted : State → State
+counted s =
     let full = leb 15 (s .accepted) in
-    let set = map (prioritised b p) (s .writes) in
-    record {
-      sizes = s .sizes;
-      running = s .running;
-      reads = s .reads;
-      writes = if full then map halved set else set;
-      gc = s .gc;
-      free = s .free;
-      accepted = if full then 0 else s .accepted + 1;
-      next = s .next;
-    }
+    numbered (moved s (s .reads) (if full then map halved (s .writes) else s .writes) (s .gc) (s .free)) (if full then 0 else s .accepted + 1) (s .next)
+
+unfoldable pub accept : (b priority : ℕ) → State → State
+accept b p s = counted (recorded b p s)
 
 -- the free head is taken as b's Write bucket, last in the queue
 unfoldable pub takeWrite : ℕ → State → State
 takeWrite b s = taken (moved s (s .reads) (s .writes ++ (entry b (head (s .free)) 0 ∷ [])) (s .gc) (s .free))
+
+-- the places that the write queue has for b, and the records that stand in them
+abbrev pub quota : Sizes → State → ℕ → ℕ
+quota z s b = z .w
+
+abbrev pub rivals : State → ℕ → List Entry
+rivals s b = s .writes
 
 module _ (z : Sizes) (d : Device) where
   -- "the smallest priority, then smallest epoch"
@@ -56,8 +62,8 @@ module _ (z : Sizes) (d : Device) where
   leastOf best [] = best
   leastOf best (e ∷ l) = leastOf (if goesFirst e best then e else best) l
 
-  unfoldable pub victim : State → ℕ
-  victim s = leastOf (getD (s .writes) 0 (entry 0 0 0)) (drop 1 (s .writes)) .back
+  unfoldable pub victim : List Entry → ℕ
+  victim l = leastOf (getD l 0 (entry 0 0 0)) (drop 1 l) .back
 
   -- b is in the write queue with n blank pages or more
   unfoldable pub fits : (b n : ℕ) → State → Bool
@@ -65,14 +71,23 @@ module _ (z : Sizes) (d : Device) where
 
   -- "if the back-end bucket is in the write queue without enough blank pages, evict its bucket. If it is absent and the queue is full, evict the
   -- smallest priority, then smallest epoch; the arrival is no candidate."
-  unfoldable pub makeWay : ℕ → State → Plan
-  makeWay b s =
-      if holds b (s .writes) then evict z d b s
-      else (if leb (z .w) (length (s .writes)) then evict z d (victim s) s else nothing s)
+  unfoldable pub outgoing : ℕ → State → Victim
+  outgoing b s =
+      if holds b (s .writes) then Bucket b
+      else (if leb (quota z s b) (length (rivals s b)) then Bucket (victim (rivals s b)) else Nobody)
+
+module _ (z : Sizes) where
+  -- what gives way, if anything does, is evicted
+  unfoldable pub evictAny : Victim → Step
+  evictAny Nobody = nothing
+  evictAny (Bucket v) = evict z v
+
+  unfoldable pub makeWay : ℕ → Step
+  makeWay b s d = evictAny (outgoing z d b s) s d
 
   -- the log behind the pages of b's Write bucket
-  unfoldable pub appendLog : (b off : ℕ) → List ℕ → State → Plan
-  appendLog b off bytes s =
+  unfoldable pub appendLog : (b off : ℕ) → List ℕ → Step
+  appendLog b off bytes s d =
       let w = cacheOf b (s .writes) in
       record {
         stores = logStores z w (z .p - blanks z d w) writeKind (epochOf z d w) b off bytes;
@@ -80,76 +95,79 @@ module _ (z : Sizes) (d : Device) where
       }
 
   -- the log in a bucket just taken
-  unfoldable pub startLog : (b off : ℕ) → List ℕ → State → Plan
-  startLog b off bytes s = record {
+  unfoldable pub startLog : (b off : ℕ) → List ℕ → Step
+  startLog b off bytes s d = record {
     stores = logStores z (head (s .free)) 0 writeKind (s .next) b off bytes;
     state = accept b (z .p - pagesFor z (length bytes)) (takeWrite b s);
   }
 
   -- "Allocate if needed, program the log."
-  unfoldable pub write : (b off : ℕ) → List ℕ → State → Plan
-  write b off bytes s =
-      if fits b (pagesFor z (length bytes)) s then appendLog b off bytes s
-      else (makeWay b s then makeRoom then startLog b off bytes)
+  unfoldable pub write : (b off : ℕ) → List ℕ → Step
+  write b off bytes s d =
+      if fits z d b (pagesFor z (length bytes)) s then appendLog b off bytes s d
+      else (makeWay b then makeRoom z then startLog b off bytes) s d
 
-  -- ---- read
+-- ---- read
 
-  -- "made most recent, no store"
-  unfoldable pub touch : ℕ → State → State
-  touch b s = moved s (without b (s .reads) ++ map (λ c. entry b c 0) (cachesOf b (s .reads))) (s .writes) (s .gc) (s .free)
+-- "made most recent, no store"
+unfoldable pub touch : ℕ → State → State
+touch b s = moved s (without b (s .reads) ++ map (λ c. entry b c 0) (cachesOf b (s .reads))) (s .writes) (s .gc) (s .free)
 
+-- the least recent read bucket joins GC
+unfoldable pub withoutOldest : State → State
+withoutOldest s = moved s (drop 1 (s .reads)) (s .writes) (s .gc ++ (getD (s .reads) 0 (entry 0 0 0) .cache ∷ [])) (s .free)
+
+module _ (z : Sizes) where
   -- "if the queue is full evict the least recent to GC (Dirty: write its P units first)"
-  unfoldable pub dropOldest : State → Plan
-  dropOldest s =
+  unfoldable pub dropOldest : Step
+  dropOldest s d =
       let oldest = getD (s .reads) 0 (entry 0 0 0) in
-      if ltb (length (s .reads)) (z .r) then nothing s
+      if ltb (length (s .reads)) (z .r) then nothing s d
       else record {
         stores = if isDirty z d (oldest .cache) then unitStores z (oldest .back) (bucketBytes z d (oldest .cache)) else [];
-        state = moved s (drop 1 (s .reads)) (s .writes) (s .gc ++ (oldest .cache ∷ [])) (s .free);
+        state = withoutOldest s;
       }
 
   -- "Read hit and write miss: made most recent, no store. Both hit: allocate, program all pages as Dirty, old read bucket to GC.
   -- Read miss: .. then allocate and program, Read on a write miss, else Dirty. With fewer than two epochs left it answers without storing or
   -- moving anything."
-  unfoldable pub read : ℕ → State → Plan
-  read b s =
+  unfoldable pub read : ℕ → Step
+  read b s d =
       let bytes = merged z s d b in
-      if ltb lastEpoch (s .next) then nothing s
+      if ltb lastEpoch (s .next) then nothing s d
       else (if holds b (s .reads)
-      then (if holds b (s .writes) then copy z dirtyKind b bytes s else move (touch b) s)
-      else (dropOldest s then copy z (if holds b (s .writes) then dirtyKind else readKind) b bytes))
+      then (if holds b (s .writes) then copy z dirtyKind b bytes s d else move (touch b) s d)
+      else (dropOldest then copy z (if holds b (s .writes) then dirtyKind else readKind) b bytes) s d)
 
-  -- ---- drain
+-- ---- drain
 
+module _ (z : Sizes) (d : Device) (s : State) where
   -- b has a Write or Dirty bucket
-  unfoldable pub unclean : State → ℕ → Bool
-  unclean s b = holds b (s .writes) || (holds b (s .reads) && isDirty z d (cacheOf b (s .reads)))
+  unfoldable pub unclean : ℕ → Bool
+  unclean b = holds b (s .writes) || (holds b (s .reads) && isDirty z d (cacheOf b (s .reads)))
 
-  unfoldable pub drainStores : State → ℕ → List Store
-  drainStores s b = unitStores z b (merged z s d b)
+  unfoldable pub drainStores : ℕ → List Store
+  drainStores b = unitStores z b (merged z s d b)
 
-  unfoldable pub isUnclean : State → Entry → Bool
-  isUnclean s e = unclean s (e .back)
+  unfoldable pub isUnclean : Entry → Bool
+  isUnclean e = unclean (e .back)
 
-  unfoldable pub isClean : State → Entry → Bool
-  isClean s e = not (isUnclean s e)
+  unfoldable pub isClean : Entry → Bool
+  isClean e = not (isUnclean e)
 
   -- "then all their read buckets by epoch, then Write buckets by epoch, join GC"
-  unfoldable pub drained : State → List ℕ
-  drained s = sortBy (epochOf z d) (caches (keep (isUnclean s) (s .reads))) ++ sortBy (epochOf z d) (caches (s .writes))
+  unfoldable pub drained : List ℕ
+  drained = sortBy (epochOf z d) (caches (keep isUnclean (s .reads))) ++ sortBy (epochOf z d) (caches (s .writes))
 
-  -- "in rising back-end number, each bucket with a Write or Dirty bucket has its merged bytes written to its P units; .. Other Read buckets stay."
-  unfoldable pub drain : State → Plan
-  drain s = record {
-    stores = concatMap (drainStores s) (keep (unclean s) (below (z .b)));
-    state = moved s (keep (isClean s) (s .reads)) [] (s .gc ++ drained s) (s .free);
-  }
+-- "in rising back-end number, each bucket with a Write or Dirty bucket has its merged bytes written to its P units; .. Other Read buckets stay."
+unfoldable pub drain : Sizes → Step
+drain z s d = record {
+  stores = concatMap (drainStores z d s) (keep (unclean z d s) (below (z .b)));
+  state = moved s (keep (isClean z d s) (s .reads)) [] (s .gc ++ drained z d s) (s .free);
+}
 
 -- ---- format
 
--- "erase all buckets in rising order; free queue in rising order; next epoch 1"; "running, at its sizes, with write count 0"
+-- "erase all buckets in rising order; free queue in rising order; next epoch 1"
 unfoldable pub format : Sizes → Plan
-format z = record {
-  stores = map erase (below (z .c));
-  state = record { sizes = z; running = true; reads = []; writes = []; gc = []; free = below (z .c); accepted = 0; next = 1 };
-}
+format z = record { stores = map erase (below (z .c)); state = started z [] [] [] (below (body z)) 1 }

@@ -39,10 +39,6 @@ unfoldable pub MayBeLent : Sizes → Lent → Type 0
 MayBeLent z whole = Unit {0}
 MayBeLent z (other d) = lengths z d ≡ false
 
-unfoldable pub Listed : Sizes → List Item → Type 0
-Listed z [] = Unit {0}
-Listed z (x ∷ xs) = MayStand z (x .request) × MayBeLent z (x .lent) × Listed z xs
-
 -- the buffers that a call gets, and the chip and disk that it leaves: those that it was not lent are not touched
 unfoldable pub lentOf : Lent → Device → Device
 lentOf whole d = d
@@ -68,7 +64,7 @@ feed z eraseCall a plain = plain
 feed z drainCall a plain = plain
 feed z (recoverCall y) a plain = plain
 
--- ---- the promise
+-- ---- what is promised of a call
 
 unfoldable pub isRefused : Answer → Bool
 isRefused Done = false
@@ -92,18 +88,37 @@ unfoldable pub PartKept : Lent → Outcome → Type 0
 PartKept whole o = Unit {0}
 PartKept (other part) o = (o .answer ≡ Refused 2) × (o .device ≡ part)
 
--- the list as a whole: each call is given the state, chip and disk that the last one left
-unfoldable pub Holds : Sizes → List Item → State → Device → List ℕ → Type 0
-Holds z [] s d plain = Unit {0}
-Holds z (x ∷ xs) s d plain =
-    let o = call (x .allowance) (x .request) s (lentOf (x .lent) d) in
-    Kept z plain (x .request) (x .lent) o
-    × PartKept (x .lent) o
-    × Holds z xs (o .state) (leftOf (x .lent) d o) (feed z (x .request) (o .answer) plain)
+-- ---- one walk over the list, for every claim about its calls
 
--- "The list starts from the state, chip and disk that a Done format left, whatever bytes the disk had."
+-- a claim about one call, given the plain disk before it
+abbrev pub Claim : Type 1
+Claim = Sizes → List ℕ → Call → Lent → Outcome → Type 0
+
+-- `shows` is the state that a call sees in what it is given, `next` what it hands back for the next call: a State, or a struct that shows one
+module _ {S : Type 0} (shows : S → State) (next : S → Outcome → S) (claim : Claim) where
+  -- the list as a whole: each call is given the state, chip and disk that the last one left
+  unfoldable pub Throughout : Sizes → List Item → S → Device → List ℕ → Type 0
+  Throughout z [] s d plain = Unit {0}
+  Throughout z (x ∷ xs) s d plain =
+      let o = call (x .allowance) (x .request) (shows s) (lentOf (x .lent) d) in
+      MayStand z (x .request) → MayBeLent z (x .lent)
+      → claim z plain (x .request) (x .lent) o
+      × Throughout z xs (next s o) (leftOf (x .lent) d o) (feed z (x .request) (o .answer) plain)
+
+  -- "The list starts from the state, chip and disk that a Done format left, whatever bytes the disk had."
+  unfoldable pub Always : Type 0
+  Always = (z : Sizes) (n : ℕ) (s : S) (d : Device) (xs : List Item)
+      → let o = call n (formatCall z) (shows s) d in
+      o .answer ≡ Done → Throughout z xs (next s o) (o .device) (d .disk)
+
+-- of the states that the definitions hand on
+unfoldable pub AlwaysHolds : Claim → Type 0
+AlwaysHolds claim = Always (λ (s : State). s) (λ (s : State) (o : Outcome). o .state) claim
+
+-- ---- the promise
+
+unfoldable pub Promised : Claim
+Promised z plain k l o = Kept z plain k l o × PartKept l o
+
 unfoldable pub NothingLost : Type 0
-NothingLost = (z : Sizes) (n : ℕ) (s : State) (d : Device) (xs : List Item)
-    → call n (formatCall z) s d .answer ≡ Done
-    → Listed z xs
-    → let o = call n (formatCall z) s d in Holds z xs (o .state) (o .device) (d .disk)
+NothingLost = AlwaysHolds Promised

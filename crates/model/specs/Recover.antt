@@ -1,22 +1,22 @@
 -- Recover: which copies and Write buckets of an image are kept, what is written to the disk, and the state.
 use Prim.Native.Nat.{ℕ, _+_}
-use mathlib.Core.Bool.{Bool, true, not, _&&_, _||_}
+use mathlib.Core.Bool.{Bool, not, _&&_, _||_}
 use mathlib.Core.List.{List, [], _∷_, _++_, map}
 use lib.ListN.{length}
 use lib.Dec.{ltb, eqb}
 use Rattle.lists.specs.Lists.{if_then_else_, below, allBelow, head, empty, any, keep, member, concatMap, sortBy}
 use Rattle.model.specs.declared.Sizes.{Sizes}
 use Rattle.model.specs.declared.Entry.{Entry}
-use Rattle.model.specs.Sizes.{Device}
+use Rattle.model.specs.Sizes.{Device, body}
 use Rattle.model.specs.Stores.{Store, bucketBytes, diskBytes, unitStores}
 use Rattle.model.specs.Image.{used, epochOf, backOf, isWrite, isCopy, isDirty, complete, blanks, merge}
-use Rattle.model.specs.State.{entry, topEpoch}
+use Rattle.model.specs.State.{started, entry, topEpoch}
 use Rattle.model.specs.Steps.{Plan}
 
 module _ (z : Sizes) (d : Device) where
   -- the cache buckets that pass a test, rising
   unfoldable pub buckets : (ℕ → Bool) → List ℕ
-  buckets t = keep t (below (z .c))
+  buckets t = keep t (below (body z))
 
   unfoldable pub byEpoch : List ℕ → List ℕ
   byEpoch l = sortBy (epochOf z d) l
@@ -42,7 +42,7 @@ module _ (z : Sizes) (d : Device) where
   givesWay c e = not (isCopyOf (backOf z d c) e) || not (isNewer c e)
 
   unfoldable pub isChosen : ℕ → Bool
-  isChosen c = complete z d c && allBelow (z .c) (givesWay c)
+  isChosen c = complete z d c && allBelow (body z) (givesWay c)
 
   unfoldable pub isChosenOf : ℕ → ℕ → Bool
   isChosenOf b c = isChosen c && eqb (backOf z d c) b
@@ -56,7 +56,36 @@ module _ (z : Sizes) (d : Device) where
   isNoOther w e = not (isWriteOf (backOf z d w) e) || eqb e w
 
   unfoldable pub isOnly : ℕ → Bool
-  isOnly w = isWrite z d w && allBelow (z .c) (isNoOther w)
+  isOnly w = isWrite z d w && allBelow (body z) (isNoOther w)
+
+  -- "superseded and incomplete copies"
+  unfoldable pub isOldCopy : ℕ → Bool
+  isOldCopy c = isCopy z d c && not (isChosen c)
+
+  unfoldable pub mergeAll : List ℕ → List ℕ → List ℕ
+  mergeAll [] base = base
+  mergeAll (w ∷ ws) base = mergeAll ws (merge z d w base)
+
+  -- "all its Write buckets by rising epoch lie over that, or over the disk"
+  unfoldable pub recovered : ℕ → List ℕ
+  recovered b = mergeAll (byEpoch (buckets (isWriteOf b))) (if empty (chosen b) then diskBytes z d b else bucketBytes z d (head (chosen b)))
+
+  -- "Blank buckets are free"
+  unfoldable pub isFree : ℕ → Bool
+  isFree c = not (used z d c)
+
+  -- a Dirty bucket of b, unsaved once it is dropped
+  unfoldable pub isUnsavedOf : ℕ → ℕ → Bool
+  isUnsavedOf b c = isDirty z d c && eqb (backOf z d c) b
+
+  -- places in the recovered queues
+  unfoldable pub keptRead : ℕ → Entry
+  keptRead c = entry (backOf z d c) c 0
+
+  unfoldable pub keptWrite : ℕ → Entry
+  keptWrite w = entry (backOf z d w) w (blanks z d w)
+
+  -- ---- what is kept and what is dropped
 
   -- "Two or more Write buckets: write the merged units, drop them and the copy. Of those with one, keep the W newest; for the rest do the same."
   unfoldable pub keptWrites : List ℕ
@@ -79,22 +108,7 @@ module _ (z : Sizes) (d : Device) where
   unfoldable pub isDroppedCopy : ℕ → Bool
   isDroppedCopy c = isChosen c && not (member c keptCopies)
 
-  -- "superseded and incomplete copies"
-  unfoldable pub isOldCopy : ℕ → Bool
-  isOldCopy c = isCopy z d c && not (isChosen c)
-
-  unfoldable pub mergeAll : List ℕ → List ℕ → List ℕ
-  mergeAll [] base = base
-  mergeAll (w ∷ ws) base = mergeAll ws (merge z d w base)
-
-  -- "all its Write buckets by rising epoch lie over that, or over the disk"
-  unfoldable pub recovered : ℕ → List ℕ
-  recovered b = mergeAll (byEpoch (buckets (isWriteOf b))) (if empty (chosen b) then diskBytes z d b else bucketBytes z d (head (chosen b)))
-
   -- "write the units of a dropped Dirty one (its own bytes)"
-  unfoldable pub isUnsavedOf : ℕ → ℕ → Bool
-  isUnsavedOf b c = isDirty z d c && eqb (backOf z d c) b
-
   unfoldable pub unsaved : ℕ → Bool
   unsaved b = any (isUnsavedOf b) (buckets isDroppedCopy)
 
@@ -108,30 +122,12 @@ module _ (z : Sizes) (d : Device) where
   unfoldable pub rescueStores : ℕ → List Store
   rescueStores b = unitStores z b (rescued b)
 
-  unfoldable pub isFree : ℕ → Bool
-  isFree c = not (used z d c)
-
-  -- places in the recovered queues
-  unfoldable pub keptRead : ℕ → Entry
-  keptRead c = entry (backOf z d c) c 0
-
-  unfoldable pub keptWrite : ℕ → Entry
-  keptWrite w = entry (backOf z d w) w (blanks z d w)
-
   -- "These disk writes go in rising back-end number." "GC: superseded and incomplete copies, then dropped copies, then dropped Write buckets, each
   -- by epoch. Blank buckets are free, rising. Kept copies by epoch, newest most recent; the write queue by epoch; priority is blank pages; next
   -- epoch is the highest plus 1, or 1."
   unfoldable pub recover : Plan
   recover = record {
     stores = concatMap rescueStores (keep isRescued (below (z .b)));
-    state = record {
-      sizes = z;
-      running = true;
-      reads = map keptRead (byEpoch keptCopies);
-      writes = map keptWrite (byEpoch keptWrites);
-      gc = byEpoch (buckets isOldCopy) ++ (byEpoch (buckets isDroppedCopy) ++ byEpoch (buckets isDroppedWrite));
-      free = buckets isFree;
-      accepted = 0;
-      next = topEpoch z d + 1;
-    };
+    state = started z (map keptRead (byEpoch keptCopies)) (map keptWrite (byEpoch keptWrites))
+        (byEpoch (buckets isOldCopy) ++ (byEpoch (buckets isDroppedCopy) ++ byEpoch (buckets isDroppedWrite))) (buckets isFree) (topEpoch z d + 1);
   }

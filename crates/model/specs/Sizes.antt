@@ -28,6 +28,10 @@ limits z = every
 unfoldable pub bucketSize : Sizes → ℕ
 bucketSize z = z .p * z .s
 
+-- the cache buckets that stand in queues
+unfoldable pub body : Sizes → ℕ
+body z = z .c
+
 -- "a lent length is its own of C × P × S, C × P × 16, B × P × S"
 unfoldable pub flashSize : Sizes → ℕ
 flashSize z = z .c * bucketSize z

@@ -7,7 +7,7 @@ use lib.Dec.{leb, ltb, eqb}
 use Rattle.lists.specs.Lists.{if_then_else_, every, times, allBelow, maxBelow, all, keep, distinct}
 use Rattle.model.specs.declared.Sizes.{Sizes}
 use Rattle.model.specs.declared.Entry.{Entry}
-use Rattle.model.specs.Sizes.{Device}
+use Rattle.model.specs.Sizes.{Device, body}
 use Rattle.model.specs.Image.{complete, isWrite, backOf, blanks, epochOf}
 
 -- "The state holds the sizes, a running mark, read and write queues, GC and free queues, priorities, the count of accepted writes and the next epoch."
@@ -29,6 +29,14 @@ stopped s = record { sizes = s .sizes; running = false; reads = s .reads; writes
 -- the same state with other queues
 unfoldable pub moved : State → (reads writes : List Entry) → (gc free : List ℕ) → State
 moved s r w g f = record { sizes = s .sizes; running = s .running; reads = r; writes = w; gc = g; free = f; accepted = s .accepted; next = s .next }
+
+-- the same state with another write count and next epoch
+abbrev pub numbered : State → (accepted next : ℕ) → State
+numbered s a n = record { sizes = s .sizes; running = s .running; reads = s .reads; writes = s .writes; gc = s .gc; free = s .free; accepted = a; next = n }
+
+-- "A finished format or recovery leaves the state running, at its sizes, with write count 0."
+abbrev pub started : Sizes → (reads writes : List Entry) → (gc free : List ℕ) → (next : ℕ) → State
+started z r w g f n = record { sizes = z; running = true; reads = r; writes = w; gc = g; free = f; accepted = 0; next = n }
 
 -- ---- queues of back-end buckets
 
@@ -102,14 +110,14 @@ module _ (z : Sizes) (d : Device) where
 
 -- the largest epoch of a bucket on the chip, or 0
 unfoldable pub topEpoch : Sizes → Device → ℕ
-topEpoch z d = maxBelow (z .c) (epochOf z d)
+topEpoch z d = maxBelow (body z) (epochOf z d)
 
 -- number 5: none of "queues do not hold each cache bucket once, a queue is too long, maps a back-end bucket twice or disagrees with
 -- spare fields, a queued read bucket is incomplete, a free bucket has a non-blank page, a priority is above P, the write count above 15,
 -- or next epoch is 0, is not above all present or exceeds 4,294,967,296"
 unfoldable pub stateFits : State → Device → Bool
 stateFits s d = every
-    (eachOnce (s .sizes .c) (queued s)
+    (eachOnce (body (s .sizes)) (queued s)
     ∷ leb (length (s .reads)) (s .sizes .r)
     ∷ leb (length (s .writes)) (s .sizes .w)
     ∷ distinct (backs (s .reads))

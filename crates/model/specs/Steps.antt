@@ -1,49 +1,47 @@
 -- Plans, and the steps that operations share: merged bytes, Erase step, Allocate, a whole copy, Evict.
--- The bytes that a plan stores are those of chip and disk at the call's entry.
+-- A step sees the chip and the disk as the steps before it leave them.
 use Prim.Native.Nat.{ℕ, _+_}
 use mathlib.Core.List.{List, [], _∷_, _++_}
 use lib.ListN.{length, drop}
 use Rattle.lists.specs.Lists.{if_then_else_, row, head, empty}
 use Rattle.model.specs.declared.Sizes.{Sizes}
 use Rattle.model.specs.Sizes.{Device, pagesFor}
-use Rattle.model.specs.Stores.{Store, program, erase, bucketBytes, diskBytes, pageBytes, unitStores}
+use Rattle.model.specs.Stores.{Store, program, erase, applyAll, bucketBytes, diskBytes, pageBytes, unitStores}
 use Rattle.model.specs.Spare.{dirtyKind, tagBytes}
 use Rattle.model.specs.Image.{merge}
-use Rattle.model.specs.State.{State, moved, entry, holds, cacheOf, cachesOf, without}
+use Rattle.model.specs.State.{State, moved, numbered, entry, holds, cacheOf, cachesOf, without}
 
 -- the stores of an operation, in order, and the state once all are made
 pub record Plan : Type 0 where
   pub stores : List Store
   pub state : State
 
-unfoldable pub nothing : State → Plan
-nothing s = record { stores = []; state = s }
+-- what a step plans, from a state and the chip and disk as they are then
+abbrev pub Step : Type 0
+Step = State → Device → Plan
 
-infixl 20 _then_
--- one step, and the next from the state that it leaves
-unfoldable pub _then_ : Plan → (State → Plan) → Plan
-p then f = record { stores = p .stores ++ f (p .state) .stores; state = f (p .state) .state }
+unfoldable pub nothing : Step
+nothing s d = record { stores = []; state = s }
+
+infixr 20 _then_
+-- one step, and the next from the state, chip and disk that it leaves
+unfoldable pub _then_ : Step → Step → Step
+_then_ f g s d =
+    let p = f s d in
+    let q = g (p .state) (applyAll (s .sizes) d (p .stores)) in
+    record { stores = p .stores ++ q .stores; state = q .state }
 
 -- a step that makes no store
-unfoldable pub move : (State → State) → State → Plan
-move f s = nothing (f s)
+unfoldable pub move : (State → State) → Step
+move f s d = nothing (f s) d
 
--- "Erase step: erase the GC head, put it last in the free queue. Idle, with no store, if and only if the GC queue is empty."
-unfoldable pub eraseStep : State → Plan
-eraseStep s =
-    if empty (s .gc) then nothing s
-    else record {
-      stores = erase (head (s .gc)) ∷ [];
-      state = moved s (s .reads) (s .writes) (drop 1 (s .gc)) (s .free ++ (head (s .gc) ∷ []));
-    }
-
--- "Allocate: if the free queue is empty, do the erase step first." Then the bucket is the free head, and its epoch the next one.
-unfoldable pub makeRoom : State → Plan
-makeRoom s = if empty (s .free) then eraseStep s else nothing s
+-- the GC head, once erased, is last in the free queue
+unfoldable pub freed : State → State
+freed s = moved s (s .reads) (s .writes) (drop 1 (s .gc)) (s .free ++ (head (s .gc) ∷ []))
 
 -- "Take the free head; it gets the next epoch, which rises by 1."
 unfoldable pub taken : State → State
-taken s = record { sizes = s .sizes; running = s .running; reads = s .reads; writes = s .writes; gc = s .gc; free = drop 1 (s .free); accepted = s .accepted; next = s .next + 1 }
+taken s = numbered (moved s (s .reads) (s .writes) (s .gc) (drop 1 (s .free))) (s .accepted) (s .next + 1)
 
 -- b's Write bucket joins GC
 unfoldable pub dropWrite : ℕ → State → State
@@ -72,14 +70,30 @@ module _ (z : Sizes) where
   unfoldable pub merged : State → Device → ℕ → List ℕ
   merged s d b = if holds b (s .writes) then merge z d (cacheOf b (s .writes)) (baseBytes s d b) else baseBytes s d b
 
+  -- "Erase step: erase the GC head, put it last in the free queue. Idle, with no store, if and only if the GC queue is empty."
+  unfoldable pub eraseStep : Step
+  eraseStep s d =
+      if empty (s .gc) then nothing s d else record { stores = erase (head (s .gc)) ∷ []; state = freed s }
+
+  -- "Allocate: if the free queue is empty, do the erase step first." Then the bucket is the free head, and its epoch the next one.
+  unfoldable pub makeRoom : Step
+  makeRoom s d = if empty (s .free) then eraseStep s d else nothing s d
+
+  -- a log in the free head, as b's read bucket
+  unfoldable pub fillCopy : (kind b : ℕ) → List ℕ → Step
+  fillCopy k b bytes s d = record { stores = logStores (head (s .free)) 0 k (s .next) b 0 bytes; state = takeCopy b s }
+
   -- allocate, program all P pages; "A copy just programmed is most recent."
-  unfoldable pub copy : (kind b : ℕ) → List ℕ → State → Plan
-  copy k b bytes s =
-      makeRoom s then (λ t. record { stores = logStores (head (t .free)) 0 k (t .next) b 0 bytes; state = takeCopy b t })
+  unfoldable pub copy : (kind b : ℕ) → List ℕ → Step
+  copy k b bytes = makeRoom then fillCopy k b bytes
+
+  -- "write all P units in rising order"
+  unfoldable pub writeOut : ℕ → List ℕ → Step
+  writeOut b bytes s d = record { stores = unitStores z b bytes; state = s }
 
   -- "Evict a Write bucket. With a read bucket: allocate, program all P pages as Dirty, which takes over the mapping as most recent; old read
   -- bucket, then Write bucket, join GC. Without: write all P units in rising order; the Write bucket joins GC."
-  unfoldable pub evict : Device → ℕ → State → Plan
-  evict d b s =
-      (if holds b (s .reads) then copy dirtyKind b (merged s d b) s else record { stores = unitStores z b (merged s d b); state = s })
-      then move (dropWrite b)
+  unfoldable pub evict : ℕ → Step
+  evict b s d =
+      let bytes = merged s d b in
+      ((if holds b (s .reads) then copy dirtyKind b bytes else writeOut b bytes) then move (dropWrite b)) s d

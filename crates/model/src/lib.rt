@@ -23,3 +23,9 @@ pub enum Answer {
     Cut,
     Refused(u8),
 }
+
+// The back-end bucket whose Write bucket gives way.
+pub enum Victim {
+    Nobody,
+    Bucket(u16),
+}

@@ -13,16 +13,14 @@ use Rattle.lists.proofs.Tests.{true-or-false, and-right}
 use Rattle.lists.proofs.Arrays.{all-at, empty-length}
 use Rattle.model.specs.declared.Sizes.{Sizes}
 use Rattle.model.specs.declared.Entry.{Entry}
-use Rattle.model.specs.Sizes.{Device}
+use Rattle.model.specs.Sizes.{Device, body}
 use Rattle.model.specs.Stores.{bucketBytes, unitStores}
 use Rattle.model.specs.Image.{isDirty}
 use Rattle.model.specs.State.{State, moved, entry, isBelow, cacheBucket, caches}
 use Rattle.model.specs.Steps.{nothing}
-use Rattle.model.specs.Operations.{dropOldest}
+use Rattle.model.specs.Operations.{dropOldest, withoutOldest}
 use Rattle.queue.specs.View.{noEntry}
-use Rattle.state.specs.View.{withoutOldest}
 use Rattle.state.proofs.Bounds.{oldest-bounded}
-use Rattle.state.proofs.View.{oldest-dropped}
 use Rattle.meter.specs.Run.{Run, runAll}
 use Rattle.steps.specs.Turns.{after}
 use Rattle.steps.specs.Ready.{Ready}
@@ -54,17 +52,17 @@ module _ (s : State) (o : Drops s) where
     not-none = empty-length (s .reads) ∙ ne-eqb (length (s .reads)) 0 (λ e. omega (arith, some-read))
 
     -- the least recent read bucket is on the chip
-    pub oldest-below : getD (s .reads) 0 noEntry .cache < s .sizes .c
+    pub oldest-below : getD (s .reads) 0 noEntry .cache < body (s .sizes)
     unfolding caches cacheBucket isBelow
     oldest-below =
         let n : 0 < length (caches (s .reads)) = simp length-map (omega (arith, some-read)) in
         let e : getD (caches (s .reads)) 0 (noEntry .cache) ≡ getD (s .reads) 0 noEntry .cache = List·getD-map cacheBucket (s .reads) 0 noEntry in
-        rw e at (ltb-true (getD (caches (s .reads)) 0 0) (s .sizes .c) (all-at (isBelow (s .sizes .c)) (caches (s .reads)) (o .orderly .reads) 0 0 n))
+        rw e at (ltb-true (getD (caches (s .reads)) 0 0) (body (s .sizes)) (all-at (isBelow (body (s .sizes))) (caches (s .reads)) (o .orderly .reads) 0 0 n))
 
     full-dropped : Dropped s (withoutOldest s)
     unfolding withoutOldest moved entry
     full-dropped =
-        let c = s .sizes .c in
+        let c = body (s .sizes) in
         let bounded = oldest-bounded s (o .orderly .bounded) not-none in
         record {
           ready = record {
@@ -86,30 +84,30 @@ module _ (s : State) (o : Drops s) where
   room-dropped : length (s .reads) < s .sizes .r → Dropped s s
   room-dropped h = record { ready = drops-ready o; sizes = refl; next = refl; fewer = h }
 
-  pub dropped : (d : Device) → Dropped s (dropOldest (s .sizes) d s .state)
+  pub dropped : (d : Device) → Dropped s (dropOldest (s .sizes) s d .state)
+  unfolding dropOldest nothing
   dropped d =
-      rw (oldest-dropped (s .sizes) d s)
-      (⊎-elim
+      ⊎-elim
       (λ e. rw e (room-dropped (ltb-true (length (s .reads)) (s .sizes .r) e)))
       (λ e. rw e (full-dropped (ltb-false (length (s .reads)) (s .sizes .r) e)))
-      (true-or-false (ltb (length (s .reads)) (s .sizes .r))))
+      (true-or-false (ltb (length (s .reads)) (s .sizes .r)))
 
 -- ---- the step itself
 
-module _ (z : Sizes) (d : Device) (s : State) (r : Run) where
+module _ (z : Sizes) (s : State) (r : Run) where
   abbrev oldest : Entry
   oldest = getD (s .reads) 0 noEntry
 
-  pub drop-none : ltb (length (s .reads)) (z .r) ≡ true → record { run = r; state = s } ≡ after z (dropOldest z d s) r
+  pub drop-none : ltb (length (s .reads)) (z .r) ≡ true → record { run = r; state = s } ≡ after z (dropOldest z) s r
   unfolding after dropOldest nothing runAll
   drop-none h = rw h
 
   module _ (full : ltb (length (s .reads)) (z .r) ≡ false) where
-    pub drop-dirty : isDirty z d (oldest .cache) ≡ true
-        → record { run = runAll z (unitStores z (oldest .back) (bucketBytes z d (oldest .cache))) r; state = withoutOldest s } ≡ after z (dropOldest z d s) r
-    unfolding after dropOldest withoutOldest entry
+    pub drop-dirty : isDirty z (r .device) (oldest .cache) ≡ true
+        → record { run = runAll z (unitStores z (oldest .back) (bucketBytes z (r .device) (oldest .cache))) r; state = withoutOldest s } ≡ after z (dropOldest z) s r
+    unfolding after dropOldest entry
     drop-dirty h = rw (full, h)
 
-    pub drop-clean : isDirty z d (oldest .cache) ≡ false → record { run = r; state = withoutOldest s } ≡ after z (dropOldest z d s) r
-    unfolding after dropOldest withoutOldest entry runAll
+    pub drop-clean : isDirty z (r .device) (oldest .cache) ≡ false → record { run = r; state = withoutOldest s } ≡ after z (dropOldest z) s r
+    unfolding after dropOldest entry runAll
     drop-clean h = rw (full, h)

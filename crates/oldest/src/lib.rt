@@ -109,7 +109,7 @@ pub fn drop_oldest(
 ) -> Turn
     requires { ⌜ Lent (s .sizes) (now flash) (now spare) (now disk) ⌝ }
     requires { ⌜ Drops (viewOf s) ⌝ }
-    ensures { λ r. ⌜ reached (now (flash .exit)) (now (spare .exit)) (now (disk .exit)) r ≡ after (s .sizes) (dropOldest (s .sizes) (device (now (flash .entry)) (now (spare .entry)) (now (disk .entry))) (viewOf s)) (running (now (flash .entry)) (now (spare .entry)) (now (disk .entry)) meter) ⌝ }
+    ensures { λ r. ⌜ reached (now (flash .exit)) (now (spare .exit)) (now (disk .exit)) r ≡ after (s .sizes) (dropOldest (s .sizes)) (viewOf s) (running (now (flash .entry)) (now (spare .entry)) (now (disk .entry)) meter) ⌝ }
     ensures { λ _. ⌜ Lent (s .sizes) (now (flash .exit)) (now (spare .exit)) (now (disk .exit)) ⌝ }
 {
     let z = s.sizes;

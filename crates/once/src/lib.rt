@@ -1,4 +1,4 @@
-// Whether the state's queues hold each cache bucket of the chip once.
+// Whether the state's queues hold each cache bucket once.
 use fifo::Fifo;
 use state::State;
 ghost use mathlib.Core.Path.{_≡_};
@@ -6,24 +6,25 @@ ghost use mathlib.Core.Bool.{true};
 ghost use Prim.Native.Nat.{ℕ, _≤_, _<_};
 ghost use lib.ListN.{length, take, getD};
 ghost use Rattle.lists.specs.Lists.{all, allBelow, times};
+ghost use Rattle.model.specs.Sizes.{body};
 ghost use Rattle.model.specs.State.{queued, isBelow, onceIn, eachOnce};
 ghost use Rattle.fifo.specs.View.{listOf};
 ghost use Rattle.state.specs.View.{viewOf};
 
 pub fn buckets_once(s: State) -> bool
-    requires { ⌜ s .sizes .c ≤ 256 ⌝ }
-    ensures { λ r. ⌜ r ≡ eachOnce (s .sizes .c) (queued (viewOf s)) ⌝ }
+    requires { ⌜ body (s .sizes) ≤ 256 ⌝ }
+    ensures { λ r. ⌜ r ≡ eachOnce (body (s .sizes)) (queued (viewOf s)) ⌝ }
 {
-    let c = s.sizes.c;
+    let end = geometry::body(s.sizes);
     let total = s.reads.used() + s.writes.used() + s.gc.used() + s.free.used();
-    if total != c {
+    if total != end {
         return false;
     }
     let list = queued(s);
     let n = list.used();
     let items = list.items;
-    if all_below(items, n, c) {
-        all_once(items, n, c)
+    if all_below(items, n, end) {
+        all_once(items, n, end)
     } else {
         false
     }

@@ -10,13 +10,14 @@ use Rattle.lists.specs.Lists.{if_then_else_, empty}
 use Rattle.model.specs.declared.Answer.the-variants.{Done, Idle}
 use Rattle.model.specs.Sizes.{Device}
 use Rattle.model.specs.State.{State}
-use Rattle.model.specs.Steps.{Plan}
+use Rattle.model.specs.Steps.{Plan, Step}
 use Rattle.model.specs.Calls.{Call, formatCall, readCall, writeCall, eraseCall, drainCall, recoverCall, refusal, sizesOf, planOf, doneAnswer, lentBuffer, readBuffer, carryOut, turnedDown, call}
 use Rattle.meter.specs.Run.{Run, fresh, runAll, ended}
 use Rattle.meter.proofs.Runs.{run-left, run-ended}
 use Rattle.state.specs.declared.State.{State as Struct}
 use Rattle.state.specs.View.{viewOf, stateOf}
 use Rattle.state.proofs.View.{view-state, view-halted}
+use Rattle.steps.specs.Turns.{Progress, after}
 use Rattle.outcome.specs.Handed.{handedBack, givenBack, handed, finished, turned}
 
 -- a call carried out wholly is answered Done or Idle: it gives the new state's struct
@@ -65,6 +66,19 @@ module _ (n : ℕ) (k : Call) (s : Struct) (d : Device) where
       same : (t : Bool) → (if t then lentBuffer k else readBuffer k (viewOf s) d) ≡ []
       same true = lent
       same false = read
+
+  -- an entry that carried out a step, from a whole allowance
+  module _ (step : Step) {p : Progress} (e : p ≡ after (sizesOf k (viewOf s)) step (viewOf s) (fresh d n)) where
+    pub step-left : p .run .meter .left ≤ n
+    unfolding after
+    step-left = rw e (run-left (sizesOf k (viewOf s)) (step (viewOf s) d .stores) d n)
+
+    pub step-handed : lentBuffer k ≡ [] → readBuffer k (viewOf s) d ≡ []
+        → handedBack (p .run .device) [] (finished (p .run .meter) n (doneAnswer k (viewOf s)) s (p .state)) ≡ handed s (carryOut n k (viewOf s) d (step (viewOf s) d))
+    unfolding after
+    step-handed lent read =
+        ap (λ (q : Progress). handedBack (q .run .device) [] (finished (q .run .meter) n (doneAnswer k (viewOf s)) s (q .state))) e
+        ∙ handed-quiet (step (viewOf s) d) lent read refl
 
   -- a call that passes all its tests
   pub handed-taken : refusal k (viewOf s) d ≡ 0 → handed s (carryOut n k (viewOf s) d (planOf k (viewOf s) d)) ≡ handed s (call n k (viewOf s) d)

@@ -1,11 +1,11 @@
 -- A read's copy can be made, and where its bytes are.
 use Prim.Native.Nat.{ℕ, _≤_}
-use mathlib.Core.Path.{_≡_, sym, ap, _∙_}
+use mathlib.Core.Path.{_≡_, refl, sym, ap, _∙_}
 use mathlib.Core.Bool.{true, false}
 use mathlib.Core.List.{List}
 use native.Mathlib.Omega.{arith}
 use Rattle.model.specs.declared.Sizes.{Sizes}
-use Rattle.model.specs.Sizes.{Device, bucketSize}
+use Rattle.model.specs.Sizes.{bucketSize}
 use Rattle.model.specs.Spare.{readKind, dirtyKind}
 use Rattle.model.specs.State.{State, holds, cachesOf}
 use Rattle.model.specs.Steps.{copy}
@@ -17,6 +17,7 @@ use Rattle.meter.specs.Run.{Run}
 use Rattle.steps.specs.Turns.{Progress, after}
 use Rattle.steps.proofs.Turns.{after-then}
 use Rattle.copying.specs.Fresh.{Copies}
+use Rattle.copying.proofs.Copied.{copy-steady}
 use Rattle.gather.specs.Sources.{Sources}
 use Rattle.gather.proofs.Gathered.{sources-of}
 use Rattle.oldest.specs.Drops.{Drops}
@@ -37,10 +38,10 @@ hit-copies {s} {b} o low h whole = record {
 }
 
 -- once the read queue has a place; p is where the step before led to
-module _ (s : State) (d : Device) (o : Drops s) (r : Run) {p : Progress} (e : p ≡ after (s .sizes) (dropOldest (s .sizes) d s) r) where
+module _ (s : State) (o : Drops s) (r : Run) {p : Progress} (e : p ≡ after (s .sizes) (dropOldest (s .sizes)) s r) where
   pub left-dropped : Dropped s (p .state)
   unfolding after
-  left-dropped = rw (ap (λ (q : Progress). q .state) e) (dropped s o d)
+  left-dropped = rw (ap (λ (q : Progress). q .state) e) (dropped s o (r .device))
 
   pub miss-copies : {b n : ℕ} → s .next ≤ 4294967294 → n ≡ bucketSize (s .sizes) → Copies (p .state) b n
   miss-copies {b} low whole =
@@ -54,10 +55,10 @@ module _ (s : State) (d : Device) (o : Drops s) (r : Run) {p : Progress} (e : p 
 
   -- the copy that follows
   pub missed : (k b : ℕ) (bytes : List ℕ) → holds b (s .reads) ≡ false → k ≡ (if holds b (s .writes) then dirtyKind else readKind)
-      → after (p .state .sizes) (copy (p .state .sizes) k b bytes (p .state)) (p .run) ≡ after (s .sizes) (copyOf (s .sizes) d b bytes s) r
-  unfolding copyOf
+      → after (p .state .sizes) (copy (p .state .sizes) k b bytes) (p .state) (p .run) ≡ after (s .sizes) (copyOf (s .sizes) b bytes) s r
+  unfolding copyOf after
   missed k b bytes h kind =
       let z = s .sizes in
-      ap (λ (y : Sizes). after y (copy y k b bytes (p .state)) (p .run)) (left-dropped .sizes)
-      ∙ (ap (λ (q : Progress). after z (copy z k b bytes (q .state)) (q .run)) e
-      ∙ (sym (after-then z (dropOldest z d s) (copy z k b bytes) r) ∙ rw (h, kind)))
+      ap (λ (y : Sizes). after y (copy y k b bytes) (p .state) (p .run)) (left-dropped .sizes)
+      ∙ (ap (λ (q : Progress). after z (copy z k b bytes) (q .state) (q .run)) e
+      ∙ (sym (after-then z (dropOldest z) (copy z k b bytes) (copy-steady z k b bytes) s r refl) ∙ rw (h, kind)))

@@ -5,11 +5,11 @@ use mathlib.Core.Bool.{true}
 use mathlib.Core.List.{List}
 use Rattle.lists.specs.Lists.{if_then_else_}
 use Rattle.model.specs.declared.Sizes.{Sizes}
-use Rattle.model.specs.Sizes.{Device, bucketSize}
+use Rattle.model.specs.Sizes.{bucketSize}
 use Rattle.model.specs.Spare.{readKind, dirtyKind}
 use Rattle.model.specs.Image.{wellFormed}
 use Rattle.model.specs.State.{State, holds}
-use Rattle.model.specs.Steps.{Plan, _then_, copy}
+use Rattle.model.specs.Steps.{Step, _then_, copy}
 use Rattle.model.specs.Operations.{dropOldest}
 use Rattle.image.specs.Chip.{spareOnly}
 use Rattle.oldest.specs.Drops.{Drops}
@@ -22,7 +22,7 @@ pub record Reads (s : State) (b off n : ℕ) (spare : List ℕ) : Type 0 where
   pub range : off + n ≤ bucketSize (s .sizes)
 
 -- both hit, or a read miss
-unfoldable pub copyOf : Sizes → Device → ℕ → List ℕ → State → Plan
-copyOf z d b bytes s =
-    if holds b (s .reads) then copy z dirtyKind b bytes s
-    else (dropOldest z d s then copy z (if holds b (s .writes) then dirtyKind else readKind) b bytes)
+unfoldable pub copyOf : Sizes → ℕ → List ℕ → Step
+copyOf z b bytes s d =
+    if holds b (s .reads) then copy z dirtyKind b bytes s d
+    else (dropOldest z then copy z (if holds b (s .writes) then dirtyKind else readKind) b bytes) s d

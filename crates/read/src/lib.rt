@@ -39,7 +39,7 @@ fn answer(
 ) -> Outcome
     requires { ⌜ Sources (viewOf s) b (now flash) (now spare) (now disk) ⌝ }
     requires { ⌜ offset + length (now buffer) ≤ bucketSize (s .sizes) ⌝ }
-    ensures { λ r. ⌜ handedBack (device (now (flash .entry)) (now (spare .entry)) (now (disk .entry))) (now (buffer .exit)) r ≡ handed s (carryOut allowance (readCall b offset (now (buffer .entry))) (viewOf s) (device (now (flash .entry)) (now (spare .entry)) (now (disk .entry))) (nothing (viewOf new))) ⌝ }
+    ensures { λ r. ⌜ handedBack (device (now (flash .entry)) (now (spare .entry)) (now (disk .entry))) (now (buffer .exit)) r ≡ handed s (carryOut allowance (readCall b offset (now (buffer .entry))) (viewOf s) (device (now (flash .entry)) (now (spare .entry)) (now (disk .entry))) (nothing (viewOf new) (device (now (flash .entry)) (now (spare .entry)) (now (disk .entry))))) ⌝ }
 {
     gather::merged_range(s, b, offset, flash, spare, disk, buffer);
     let whole = Meter {
@@ -68,7 +68,7 @@ fn make_copy(
 ) -> Turn
     requires { ⌜ Lent (s .sizes) (now flash) (now spare) (now disk) ⌝ }
     requires { ⌜ Drops (viewOf s) × (s .next ≤ 4294967294) × (length (now bytes) ≡ bucketSize (s .sizes)) ⌝ }
-    ensures { λ r. ⌜ reached (now (flash .exit)) (now (spare .exit)) (now (disk .exit)) r ≡ after (s .sizes) (copyOf (s .sizes) (device (now (flash .entry)) (now (spare .entry)) (now (disk .entry))) b (now (bytes .entry)) (viewOf s)) (running (now (flash .entry)) (now (spare .entry)) (now (disk .entry)) meter) ⌝ }
+    ensures { λ r. ⌜ reached (now (flash .exit)) (now (spare .exit)) (now (disk .exit)) r ≡ after (s .sizes) (copyOf (s .sizes) b (now (bytes .entry))) (viewOf s) (running (now (flash .entry)) (now (spare .entry)) (now (disk .entry)) meter) ⌝ }
     ensures { λ _. ⌜ Lent (s .sizes) (now (flash .exit)) (now (spare .exit)) (now (disk .exit)) ⌝ }
 {
     if s.reads.holds(b) {
@@ -108,7 +108,7 @@ fn copy_by(
     requires { ⌜ Lent (s .sizes) (now flash) (now spare) (now disk) ⌝ }
     requires { ⌜ Reads (viewOf s) b offset (length (now buffer)) (now spare) ⌝ }
     requires { ⌜ (s .next ≤ 4294967294) × (length (now bytes) ≡ bucketSize (s .sizes)) ⌝ }
-    ensures { λ r. ⌜ handedBack (device (now (flash .exit)) (now (spare .exit)) (now (disk .exit))) (now (buffer .exit)) r ≡ handed s (carryOut allowance (readCall b offset (now (buffer .entry))) (viewOf s) (device (now (flash .entry)) (now (spare .entry)) (now (disk .entry))) (copyOf (s .sizes) (device (now (flash .entry)) (now (spare .entry)) (now (disk .entry))) b (merged (s .sizes) (viewOf s) (device (now (flash .entry)) (now (spare .entry)) (now (disk .entry))) b) (viewOf s))) ⌝ }
+    ensures { λ r. ⌜ handedBack (device (now (flash .exit)) (now (spare .exit)) (now (disk .exit))) (now (buffer .exit)) r ≡ handed s (carryOut allowance (readCall b offset (now (buffer .entry))) (viewOf s) (device (now (flash .entry)) (now (spare .entry)) (now (disk .entry))) (copyOf (s .sizes) b (merged (s .sizes) (viewOf s) (device (now (flash .entry)) (now (spare .entry)) (now (disk .entry))) b) (viewOf s) (device (now (flash .entry)) (now (spare .entry)) (now (disk .entry))))) ⌝ }
 {
     gather::merged_into(s, b, flash, spare, disk, bytes);
     let whole = Meter {
@@ -136,7 +136,7 @@ fn copy_small(
     requires { ⌜ Reads (viewOf s) b offset (length (now buffer)) (now spare) ⌝ }
     requires { ⌜ s .next ≤ 4294967294 ⌝ }
     requires { ⌜ bucketSize (s .sizes) ≤ 2048 ⌝ }
-    ensures { λ r. ⌜ handedBack (device (now (flash .exit)) (now (spare .exit)) (now (disk .exit))) (now (buffer .exit)) r ≡ handed s (carryOut allowance (readCall b offset (now (buffer .entry))) (viewOf s) (device (now (flash .entry)) (now (spare .entry)) (now (disk .entry))) (copyOf (s .sizes) (device (now (flash .entry)) (now (spare .entry)) (now (disk .entry))) b (merged (s .sizes) (viewOf s) (device (now (flash .entry)) (now (spare .entry)) (now (disk .entry))) b) (viewOf s))) ⌝ }
+    ensures { λ r. ⌜ handedBack (device (now (flash .exit)) (now (spare .exit)) (now (disk .exit))) (now (buffer .exit)) r ≡ handed s (carryOut allowance (readCall b offset (now (buffer .entry))) (viewOf s) (device (now (flash .entry)) (now (spare .entry)) (now (disk .entry))) (copyOf (s .sizes) b (merged (s .sizes) (viewOf s) (device (now (flash .entry)) (now (spare .entry)) (now (disk .entry))) b) (viewOf s) (device (now (flash .entry)) (now (spare .entry)) (now (disk .entry))))) ⌝ }
 {
     let mut bytes = [0u8; 2048];
     let z = s.sizes;
@@ -167,7 +167,7 @@ fn copy_large(
     requires { ⌜ Lent (s .sizes) (now flash) (now spare) (now disk) ⌝ }
     requires { ⌜ Reads (viewOf s) b offset (length (now buffer)) (now spare) ⌝ }
     requires { ⌜ s .next ≤ 4294967294 ⌝ }
-    ensures { λ r. ⌜ handedBack (device (now (flash .exit)) (now (spare .exit)) (now (disk .exit))) (now (buffer .exit)) r ≡ handed s (carryOut allowance (readCall b offset (now (buffer .entry))) (viewOf s) (device (now (flash .entry)) (now (spare .entry)) (now (disk .entry))) (copyOf (s .sizes) (device (now (flash .entry)) (now (spare .entry)) (now (disk .entry))) b (merged (s .sizes) (viewOf s) (device (now (flash .entry)) (now (spare .entry)) (now (disk .entry))) b) (viewOf s))) ⌝ }
+    ensures { λ r. ⌜ handedBack (device (now (flash .exit)) (now (spare .exit)) (now (disk .exit))) (now (buffer .exit)) r ≡ handed s (carryOut allowance (readCall b offset (now (buffer .entry))) (viewOf s) (device (now (flash .entry)) (now (spare .entry)) (now (disk .entry))) (copyOf (s .sizes) b (merged (s .sizes) (viewOf s) (device (now (flash .entry)) (now (spare .entry)) (now (disk .entry))) b) (viewOf s) (device (now (flash .entry)) (now (spare .entry)) (now (disk .entry))))) ⌝ }
 {
     let mut bytes = [0u8; 65536];
     let z = s.sizes;
@@ -199,7 +199,7 @@ fn copy_read(
     requires { ⌜ Lent (s .sizes) (now flash) (now spare) (now disk) ⌝ }
     requires { ⌜ Reads (viewOf s) b offset (length (now buffer)) (now spare) ⌝ }
     requires { ⌜ s .next ≤ 4294967294 ⌝ }
-    ensures { λ r. ⌜ handedBack (device (now (flash .exit)) (now (spare .exit)) (now (disk .exit))) (now (buffer .exit)) r ≡ handed s (carryOut allowance (readCall b offset (now (buffer .entry))) (viewOf s) (device (now (flash .entry)) (now (spare .entry)) (now (disk .entry))) (copyOf (s .sizes) (device (now (flash .entry)) (now (spare .entry)) (now (disk .entry))) b (merged (s .sizes) (viewOf s) (device (now (flash .entry)) (now (spare .entry)) (now (disk .entry))) b) (viewOf s))) ⌝ }
+    ensures { λ r. ⌜ handedBack (device (now (flash .exit)) (now (spare .exit)) (now (disk .exit))) (now (buffer .exit)) r ≡ handed s (carryOut allowance (readCall b offset (now (buffer .entry))) (viewOf s) (device (now (flash .entry)) (now (spare .entry)) (now (disk .entry))) (copyOf (s .sizes) b (merged (s .sizes) (viewOf s) (device (now (flash .entry)) (now (spare .entry)) (now (disk .entry))) b) (viewOf s) (device (now (flash .entry)) (now (spare .entry)) (now (disk .entry))))) ⌝ }
 {
     let z = s.sizes;
     let size = z.p * z.s;
@@ -231,7 +231,7 @@ fn read_bucket(
 ) -> Outcome
     requires { ⌜ Lent (s .sizes) (now flash) (now spare) (now disk) ⌝ }
     requires { ⌜ Reads (viewOf s) b offset (length (now buffer)) (now spare) ⌝ }
-    ensures { λ r. ⌜ handedBack (device (now (flash .exit)) (now (spare .exit)) (now (disk .exit))) (now (buffer .exit)) r ≡ handed s (carryOut allowance (readCall b offset (now (buffer .entry))) (viewOf s) (device (now (flash .entry)) (now (spare .entry)) (now (disk .entry))) (read (s .sizes) (device (now (flash .entry)) (now (spare .entry)) (now (disk .entry))) b (viewOf s))) ⌝ }
+    ensures { λ r. ⌜ handedBack (device (now (flash .exit)) (now (spare .exit)) (now (disk .exit))) (now (buffer .exit)) r ≡ handed s (carryOut allowance (readCall b offset (now (buffer .entry))) (viewOf s) (device (now (flash .entry)) (now (spare .entry)) (now (disk .entry))) (read (s .sizes) b (viewOf s) (device (now (flash .entry)) (now (spare .entry)) (now (disk .entry))))) ⌝ }
 {
     if 4294967294 < s.next {
         return answer(s, s, b, offset, buffer, allowance, flash, spare, disk);

@@ -12,15 +12,15 @@ use Rattle.lists.proofs.Rows.{map-append}
 use Rattle.lists.proofs.Arrays.{joined-fits, done-more}
 use Rattle.lists.proofs.Counts.{length-once}
 use Rattle.model.specs.declared.Sizes.{Sizes}
-use Rattle.model.specs.Sizes.{Device}
+use Rattle.model.specs.Sizes.{Device, body}
 use Rattle.model.specs.Stores.{tagOf}
-use Rattle.model.specs.Image.{used, epochOf, backOf, isWrite, isCopy, complete, pageBlank, blanks, wellFormed}
+use Rattle.model.specs.Image.{headTag, used, epochOf, backOf, isWrite, isCopy, complete, pageBlank, blanks, wellFormed}
 use Rattle.model.specs.State.{queued, topEpoch}
 use Rattle.model.specs.Recover.{buckets, byEpoch, isNewer, amongNewest, newest, isWriteOf, isCopyOf, givesWay, isChosen, isNoOther, isOnly, keptWrites, isDroppedWrite, flushed, isRemaining, keptCopies, isDroppedCopy, isOldCopy, isFree, keptRead, keptWrite, recover}
 use Rattle.model.proofs.Formed.{formed-of}
 use Rattle.model.proofs.Inside.{places-queued}
 use Rattle.model.proofs.RecoverQueues.{once-recovered, few-reads-recovered, few-writes-recovered}
-use Rattle.geometry.specs.Geometry.{Limits}
+use Rattle.model.proofs.Limits.{Limits}
 use Rattle.image.specs.Chip.{spareOnly}
 use Rattle.classes.specs.Classes.{Within}
 use Rattle.classes.proofs.Choices.{within-as, kept-copies-within, kept-writes-within}
@@ -39,14 +39,14 @@ module _ (z : Sizes) (d : Device) where
   unfolding byEpoch
   sorted-as e h = h ∙ ap (sortBy (epochOf z d)) e
 
-  -- all buckets of the chip stand in the queues, each once
-  total : length (queued (recover z d .state)) ≡ z .c
-  total = length-once (z .c) (queued (recover z d .state)) (λ c. places-queued (recover z d .state) c ∙ once-recovered z d c)
+  -- all buckets below body stand in the queues, each once
+  total : length (queued (recover z d .state)) ≡ body z
+  total = length-once (body z) (queued (recover z d .state)) (λ c. places-queued (recover z d .state) c ∙ once-recovered z d c)
 
   -- the GC queue, group by group
   module _ {old copies writes : List ℕ} (o : old ≡ byEpoch z d (buckets z d (isOldCopy z d))) (c : copies ≡ byEpoch z d (buckets z d (isDroppedCopy z d)))
       (w : writes ≡ byEpoch z d (buckets z d (isDroppedWrite z d))) where
-    pub gc-fits : length old + (length copies + length writes) ≤ z .c
+    pub gc-fits : length old + (length copies + length writes) ≤ body z
     unfolding queued recover
     gc-fits = let t = total in rw (o, c, w) (omega (arith, simp length-append at t))
 
@@ -71,5 +71,5 @@ module _ (z : Sizes) (d : Device) where
     writes-fit e = (within-as z e (sorted-within z d (keptWrites z d) (kept-writes-within z d)), rw e (few-writes limits formed))
 
   pub same-state : recover z (spareOnly (d .spare)) .state ≡ recover z d .state
-  unfolding recover keptRead keptWrite isFree isOldCopy isDroppedCopy keptCopies isRemaining flushed isDroppedWrite keptWrites isOnly isNoOther isChosen givesWay isCopyOf isWriteOf newest amongNewest isNewer byEpoch buckets topEpoch blanks pageBlank complete isCopy isWrite backOf epochOf used tagOf
+  unfolding recover keptRead keptWrite isFree isOldCopy isDroppedCopy keptCopies isRemaining flushed isDroppedWrite keptWrites isOnly isNoOther isChosen givesWay isCopyOf isWriteOf newest amongNewest isNewer byEpoch buckets topEpoch blanks pageBlank complete isCopy isWrite backOf epochOf used headTag tagOf
   same-state = refl

@@ -10,7 +10,7 @@ use Rattle.lists.specs.Lists.{if_then_else_, any, keep, member, head, empty}
 use Rattle.model.specs.declared.Sizes.{Sizes}
 use Rattle.model.specs.Sizes.{Device}
 use Rattle.model.specs.Stores.{tagOf, bucketBytes, diskBytes}
-use Rattle.model.specs.Image.{used, epochOf, backOf, isWrite, isCopy, isDirty, complete}
+use Rattle.model.specs.Image.{headTag, used, epochOf, backOf, isWrite, isCopy, isDirty, complete}
 use Rattle.model.specs.Recover.{buckets, byEpoch, isNewer, amongNewest, newest, isWriteOf, isCopyOf, givesWay, isChosen, chosen, isNoOther, isOnly, keptWrites, isDroppedWrite, flushed, isRemaining, keptCopies, isDroppedCopy, mergeAll, recovered, isUnsavedOf, unsaved, isRescued, rescued, rescueStores}
 use Rattle.image.specs.Chip.{spareOnly}
 use Rattle.order.specs.Order.{nextOf}
@@ -59,7 +59,7 @@ module _ (z : Sizes) (d : Device) where
 module _ (z : Sizes) (d : Device) where
   -- the spare area alone says which
   same-rescued-test : (b : ℕ) → isRescued z (spareOnly (d .spare)) b ≡ isRescued z d b
-  unfolding isRescued unsaved isUnsavedOf isDroppedCopy keptCopies isRemaining isDirty flushed buckets isDroppedWrite keptWrites newest amongNewest isNewer isOnly isNoOther isWriteOf isWrite isChosen givesWay isCopyOf complete isCopy used epochOf backOf tagOf
+  unfolding isRescued unsaved isUnsavedOf isDroppedCopy keptCopies isRemaining isDirty flushed buckets isDroppedWrite keptWrites newest amongNewest isNewer isOnly isNoOther isWriteOf isWrite isChosen givesWay isCopyOf complete isCopy used epochOf backOf headTag tagOf
   same-rescued-test b = refl
 
   pub found-in : {l m : List ℕ} → l ≡ map (backOf z (spareOnly (d .spare))) (buckets z (spareOnly (d .spare)) (isDroppedWrite z (spareOnly (d .spare))))

@@ -13,9 +13,9 @@ use Rattle.lists.proofs.Counts.{all-in, in-all}
 use Rattle.lists.proofs.Orders.{times-sort}
 use Rattle.lists.proofs.Arrays.{rest-more, empty-length}
 use Rattle.model.specs.declared.Sizes.{Sizes}
-use Rattle.model.specs.Sizes.{Device, bucketSize}
+use Rattle.model.specs.Sizes.{Device, bucketSize, body}
 use Rattle.model.specs.Stores.{tagOf, bucketBytes, diskBytes}
-use Rattle.model.specs.Image.{used, epochOf, backOf, isWrite, isCopy, complete, merge}
+use Rattle.model.specs.Image.{headTag, used, epochOf, backOf, isWrite, isCopy, complete, merge}
 use Rattle.model.specs.State.{isBelow}
 use Rattle.model.specs.Recover.{buckets, byEpoch, isNewer, amongNewest, newest, isWriteOf, isCopyOf, givesWay, isChosen, isChosenOf, chosen, isNoOther, isOnly, keptWrites, isDroppedWrite, flushed, mergeAll, recovered, rescued}
 use Rattle.image.specs.Chip.{Chip, spareOnly}
@@ -40,10 +40,10 @@ module _ {z : Sizes} {flash spare disk : List ℕ} (sound : Recoverable z flash 
 
 -- ---- lists of buckets
 
-pub head-within : (z : Sizes) (l : List ℕ) → 1 ≤ z .c → Within z l → head l < z .c
+pub head-within : (z : Sizes) (l : List ℕ) → 1 ≤ body z → Within z l → head l < body z
 unfolding head all isBelow
 head-within z [] low h = low
-head-within z (x ∷ l) low h = ltb-true x (z .c) (and-left (isBelow (z .c) x) (all (isBelow (z .c)) l) h)
+head-within z (x ∷ l) low h = ltb-true x (body z) (and-left (isBelow (body z) x) (all (isBelow (body z)) l) h)
 
 pub copy-within : (z : Sizes) (d : Device) (b : ℕ) → Within z (chosen z d b)
 unfolding chosen
@@ -51,7 +51,7 @@ copy-within z d b = buckets-within z d (isChosenOf z d b)
 
 pub sorted-within : (z : Sizes) (d : Device) (l : List ℕ) → Within z l → Within z (byEpoch z d l)
 unfolding byEpoch
-sorted-within z d l h = in-all (isBelow (z .c)) (sortBy (epochOf z d) l) (λ x q. all-in (isBelow (z .c)) l h x (omega (arith, times-sort (epochOf z d) x l)))
+sorted-within z d l h = in-all (isBelow (body z)) (sortBy (epochOf z d) l) (λ x q. all-in (isBelow (body z)) l h x (omega (arith, times-sort (epochOf z d) x l)))
 
 -- ---- merges
 
@@ -77,15 +77,15 @@ module _ (z : Sizes) (d : Device) where
   -- ---- what the spare area alone says
 
   pub same-chosen : (b : ℕ) → chosen z (spareOnly (d .spare)) b ≡ chosen z d b
-  unfolding chosen buckets isChosenOf isChosen givesWay isCopyOf isNewer complete isCopy used epochOf backOf tagOf
+  unfolding chosen buckets isChosenOf isChosen givesWay isCopyOf isNewer complete isCopy used epochOf backOf headTag tagOf
   same-chosen b = refl
 
   pub same-flushed : (b : ℕ) → flushed z (spareOnly (d .spare)) b ≡ flushed z d b
-  unfolding flushed buckets isDroppedWrite keptWrites newest amongNewest isNewer isOnly isNoOther isWriteOf isWrite used epochOf backOf tagOf
+  unfolding flushed buckets isDroppedWrite keptWrites newest amongNewest isNewer isOnly isNoOther isWriteOf isWrite used epochOf backOf headTag tagOf
   same-flushed b = refl
 
   pub same-logs : (b : ℕ) → byEpoch z (spareOnly (d .spare)) (buckets z (spareOnly (d .spare)) (isWriteOf z (spareOnly (d .spare)) b)) ≡ byEpoch z d (buckets z d (isWriteOf z d b))
-  unfolding byEpoch buckets isWriteOf isWrite used epochOf backOf tagOf
+  unfolding byEpoch buckets isWriteOf isWrite used epochOf backOf headTag tagOf
   same-logs b = refl
 
   -- ---- the rescued bytes

@@ -5,7 +5,8 @@ use mathlib.Core.List.{List}
 use Prim.Native.Nat.{ℕ}
 use Rattle.model.specs.declared.Sizes.{Sizes}
 use Rattle.model.specs.Image.{wellFormed}
-use Rattle.geometry.specs.Geometry.{Limits, Lent}
+use Rattle.model.proofs.Limits.{Limits}
+use Rattle.geometry.specs.Geometry.{Lent}
 use Rattle.image.specs.Chip.{spareOnly}
 
 pub record Recoverable (z : Sizes) (flash spare disk : List ℕ) : Type 0 where

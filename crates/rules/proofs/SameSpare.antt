@@ -5,9 +5,9 @@ use mathlib.Core.List.{map}
 use Prim.Native.Nat.{ℕ, zero, suc}
 use Rattle.lists.specs.Lists.{allBelow, distinct, keep, below}
 use Rattle.model.specs.declared.Sizes.{Sizes}
-use Rattle.model.specs.Sizes.{Device}
+use Rattle.model.specs.Sizes.{Device, body}
 use Rattle.model.specs.Stores.{tagOf}
-use Rattle.model.specs.Image.{pageFits, bucketFits, used, epochOf, wellFormed}
+use Rattle.model.specs.Image.{headTag, pageFits, bucketFits, used, epochOf, wellFormed}
 use Rattle.image.specs.Chip.{spareOnly}
 
 module _ (z : Sizes) (d : Device) where
@@ -21,6 +21,6 @@ module _ (z : Sizes) (d : Device) where
   same-bucket c = ap (allBelow (z .p)) (fun-ext (same-page c))
 
   pub same-well-formed : wellFormed z (spareOnly (d .spare)) ≡ wellFormed z d
-  unfolding wellFormed epochOf used tagOf
+  unfolding wellFormed epochOf used headTag tagOf
   same-well-formed =
-      ap (λ fits. allBelow (z .c) fits && distinct (map (epochOf z d) (keep (used z d) (below (z .c))))) (fun-ext same-bucket)
+      ap (λ fits. allBelow (body z) fits && distinct (map (epochOf z d) (keep (used z d) (below (body z))))) (fun-ext same-bucket)

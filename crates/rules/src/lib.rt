@@ -8,10 +8,11 @@ ghost use mathlib.Core.Bool.{true, false, _&&_};
 ghost use mathlib.Core.List.{List, map};
 ghost use Prim.Native.Nat.{ℕ, _≤_, _<_};
 ghost use Rattle.lists.specs.Lists.{all, allBelow, member, distinct, keep, below};
+ghost use Rattle.model.specs.Sizes.{body};
 ghost use Rattle.model.specs.Spare.{blank, zeros};
 ghost use Rattle.model.specs.Stores.{tagOf};
 ghost use Rattle.model.specs.Image.{continues, follows, fieldsFit, pageFits, bucketFits, used, epochOf, wellFormed};
-ghost use Rattle.geometry.specs.Geometry.{Limits};
+ghost use Rattle.model.proofs.Limits.{Limits};
 ghost use Rattle.spare.specs.Fields.{fields, seen};
 ghost use Rattle.spare.specs.declared.Seen.the-variants.{Programmed};
 ghost use Rattle.image.specs.Chip.{Chip, spareOnly};
@@ -174,11 +175,12 @@ fn bucket_fits(z: Sizes, c: usize, spare: &[u8]) -> bool
 
 fn buckets_fit(z: Sizes, spare: &[u8]) -> bool
     requires { ⌜ Chip z (now spare) ⌝ }
-    ensures { λ r. ⌜ r ≡ allBelow (z .c) (bucketFits z (spareOnly (now (spare .entry)))) ⌝ }
+    ensures { λ r. ⌜ r ≡ allBelow (body z) (bucketFits z (spareOnly (now (spare .entry)))) ⌝ }
 {
+    let end = geometry::body(z);
     let mut fit = true;
     let mut bucket = 0;
-    while bucket < z.c {
+    while bucket < end {
         fit = fit & bucket_fits(z, bucket, spare);
         bucket += 1;
     }
@@ -215,12 +217,13 @@ fn all_differ(items: &[u32]) -> bool
 // No two buckets share an epoch: those of the used buckets are gathered, and compared.
 fn epochs_differ(z: Sizes, spare: &[u8]) -> bool
     requires { ⌜ Chip z (now spare) ⌝ }
-    ensures { λ r. ⌜ r ≡ distinct (map (epochOf z (spareOnly (now (spare .entry)))) (keep (used z (spareOnly (now (spare .entry)))) (below (z .c)))) ⌝ }
+    ensures { λ r. ⌜ r ≡ distinct (map (epochOf z (spareOnly (now (spare .entry)))) (keep (used z (spareOnly (now (spare .entry)))) (below (body z)))) ⌝ }
 {
     let mut epochs = [0u32; 256];
     let mut n = 0;
+    let end = geometry::body(z);
     let mut c = 0;
-    while c < z.c {
+    while c < end {
         if image::used(z, c, spare) {
             epochs[n] = image::epoch_of(z, c, spare);
             n += 1;

@@ -6,20 +6,22 @@ use mathlib.Core.Logic.{⊎-elim}
 use mathlib.Core.List.{List, [], _∷_, _++_}
 use native.Mathlib.Omega.{arith}
 use lib.ListN.{length, length-append, length-map}
-use borrow.Author.Tests.{eqb-true, leb-true, ltb-true, ne-eqb}
+use borrow.Author.Tests.{eqb-true, leb-true, ltb-true, lt-ltb, ne-eqb}
 use Rattle.lists.specs.Lists.{empty, head, all}
 use Rattle.lists.proofs.Tests.{every-at, true-or-false}
 use Rattle.lists.proofs.Arrays.{empty-length, all-at}
-use Rattle.model.specs.Sizes.{Device, limits}
+use Rattle.lists.proofs.Counts.{all-in, in-all}
+use Rattle.model.specs.declared.Sizes.{Sizes}
+use Rattle.model.specs.Sizes.{Device, limits, body}
 use Rattle.model.specs.State.{State, moved, caches, queued, isBelow, eachOnce, stateFits}
-use Rattle.model.specs.Steps.{makeRoom, eraseStep, nothing}
-use Rattle.geometry.proofs.Passed.{limits-hold}
+use Rattle.model.specs.Steps.{makeRoom, eraseStep, nothing, freed}
+use Rattle.model.proofs.Limits.{limits-of, on-chip}
 use Rattle.state.specs.View.{Bounded}
 use Rattle.state.proofs.Bounds.{not-empty}
 
 pub record Queued (s : State) : Type 0 where
-  pub total : length (s .reads) + length (s .writes) + length (s .gc) + length (s .free) ≡ s .sizes .c
-  pub below : all (isBelow (s .sizes .c)) (queued s) ≡ true
+  pub total : length (s .reads) + length (s .writes) + length (s .gc) + length (s .free) ≡ body (s .sizes)
+  pub below : all (isBelow (body (s .sizes))) (queued s) ≡ true
   pub reads : length (s .reads) ≤ s .sizes .r
   pub writes : length (s .writes) ≤ s .sizes .w
   pub next : s .next ≤ 4294967296
@@ -27,6 +29,11 @@ pub record Queued (s : State) : Type 0 where
 pub head-below : (c : ℕ) (l : List ℕ) → all (isBelow c) l ≡ true → empty l ≡ false → head l < c
 unfolding head isBelow
 head-below c l h e = ltb-true (head l) c (all-at (isBelow c) l h 0 0 (not-empty l e))
+
+-- buckets that stand in queues are buckets of the chip
+pub all-on-chip : (z : Sizes) (l : List ℕ) → all (isBelow (body z)) l ≡ true → all (isBelow (z .c)) l ≡ true
+unfolding isBelow
+all-on-chip z l h = in-all (isBelow (z .c)) l (λ c k. lt-ltb c (z .c) (on-chip z c (ltb-true c (body z) (all-in (isBelow (body z)) l h c k))))
 
 module _ (s : State) where
   pub queued-length : length (queued s) ≡ length (s .reads) + length (s .writes) + length (s .gc) + length (s .free)
@@ -39,7 +46,7 @@ module _ (s : State) where
       let t = every-at _ h in
       let once = every-at _ (t 0) in
       record {
-        total = sym queued-length ∙ eqb-true (length (queued s)) (s .sizes .c) (once 0);
+        total = sym queued-length ∙ eqb-true (length (queued s)) (body (s .sizes)) (once 0);
         below = once 1;
         reads = leb-true (length (s .reads)) (s .sizes .r) (t 1);
         writes = leb-true (length (s .writes)) (s .sizes .w) (t 2);
@@ -50,20 +57,20 @@ module _ (s : State) where
     pub bounded : Bounded s
     bounded =
         let q = queues-hold d fits in
-        let l = limits-hold (s .sizes) limited in
+        let l = limits-of (s .sizes) limited in
         record { reads = omega arith; writes = omega arith; total = omega arith; next = omega arith }
 
     -- "if the free queue is empty, do the erase step first": then there is a GC head
     pub some-gc : empty (s .free) ≡ true → empty (s .gc) ≡ false
     some-gc e =
         let q = queues-hold d fits in
-        let l = limits-hold (s .sizes) limited in
+        let l = limits-of (s .sizes) limited in
         let n : length (s .free) ≡ 0 = eqb-true (length (s .free)) 0 (sym (empty-length (s .free)) ∙ e) in
         empty-length (s .gc) ∙ ne-eqb (length (s .gc)) 0 (λ h. omega arith)
 
-    pub allocates : empty (makeRoom s .state .free) ≡ false
-    unfolding makeRoom eraseStep nothing moved
-    allocates =
+    pub allocates : (e : Device) → empty (makeRoom (s .sizes) s e .state .free) ≡ false
+    unfolding makeRoom eraseStep nothing freed moved
+    allocates e =
         ⊎-elim
         (λ e. rw (some-gc e, e) (empty-length (s .free ++ (head (s .gc) ∷ [])) ∙ ne-eqb (length (s .free ++ (head (s .gc) ∷ []))) 0 (λ h. omega (arith, simp length-append at h))))
         (λ e. rw e e)

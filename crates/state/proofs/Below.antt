@@ -1,4 +1,4 @@
--- Queues that hold buckets of the chip alone.
+-- Queues that hold none but buckets that may stand there.
 use Prim.Native.Nat.{ℕ, _≤_, _<_}
 use mathlib.Core.Path.{_≡_, sym, _∙_}
 use mathlib.Core.Bool.{Bool, true}
@@ -10,14 +10,15 @@ use Rattle.lists.specs.Lists.{all}
 use Rattle.lists.proofs.Tests.{and-left, and-right}
 use Rattle.lists.proofs.Arrays.{all-append, all-at}
 use Rattle.model.specs.declared.Entry.{Entry}
+use Rattle.model.specs.Sizes.{body}
 use Rattle.model.specs.State.{State, cacheBucket, caches, queued, isBelow}
 use Rattle.queue.specs.View.{noEntry}
 
 pub record Below (s : State) : Type 0 where
-  pub reads : all (isBelow (s .sizes .c)) (caches (s .reads)) ≡ true
-  pub writes : all (isBelow (s .sizes .c)) (caches (s .writes)) ≡ true
-  pub gc : all (isBelow (s .sizes .c)) (s .gc) ≡ true
-  pub free : all (isBelow (s .sizes .c)) (s .free) ≡ true
+  pub reads : all (isBelow (body (s .sizes))) (caches (s .reads)) ≡ true
+  pub writes : all (isBelow (body (s .sizes))) (caches (s .writes)) ≡ true
+  pub gc : all (isBelow (body (s .sizes))) (s .gc) ≡ true
+  pub free : all (isBelow (body (s .sizes))) (s .free) ≡ true
 
 module _ (t : ℕ → Bool) (l m : List ℕ) (h : all t (l ++ m) ≡ true) where
   front : all t l ≡ true
@@ -26,10 +27,10 @@ module _ (t : ℕ → Bool) (l m : List ℕ) (h : all t (l ++ m) ≡ true) where
   behind : all t m ≡ true
   behind = and-right (all t l) (all t m) (sym (all-append t l m) ∙ h)
 
-pub queues-below : (s : State) → all (isBelow (s .sizes .c)) (queued s) ≡ true → Below s
+pub queues-below : (s : State) → all (isBelow (body (s .sizes))) (queued s) ≡ true → Below s
 unfolding queued
 queues-below s h =
-    let t = isBelow (s .sizes .c) in
+    let t = isBelow (body (s .sizes)) in
     let w = behind t (caches (s .reads)) (caches (s .writes) ++ (s .gc ++ s .free)) h in
     let g = behind t (caches (s .writes)) (s .gc ++ s .free) w in
     record {

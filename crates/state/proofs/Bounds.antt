@@ -2,17 +2,15 @@
 use Prim.Native.Nat.{ℕ, _≤_, _<_}
 use mathlib.Core.Path.{_≡_}
 use mathlib.Core.Bool.{false, true≢false}
-use mathlib.Core.Logic.{⊎-elim}
 use mathlib.Core.List.{List, [], _∷_}
 use native.Mathlib.Omega.{arith}
 use lib.ListN.{length, length-append, length-drop}
 use Rattle.lists.specs.Lists.{empty}
-use Rattle.lists.proofs.Tests.{true-or-false}
 use Rattle.queue.proofs.Without.{without-length}
 use Rattle.model.specs.State.{State, moved, without}
-use Rattle.model.specs.Steps.{eraseStep, makeRoom, nothing, taken, dropWrite, takeCopy}
-use Rattle.model.specs.Operations.{takeWrite}
-use Rattle.state.specs.View.{Bounded, withoutOldest}
+use Rattle.model.specs.Steps.{freed, taken, dropWrite, takeCopy}
+use Rattle.model.specs.Operations.{takeWrite, withoutOldest}
+use Rattle.state.specs.View.{Bounded}
 
 pub gc-fits : {s : State} → Bounded s → length (s .gc) ≤ 256
 gc-fits b = omega arith
@@ -26,25 +24,16 @@ not-empty [] h = absurd (true≢false h)
 not-empty (x ∷ l) h = omega arith
 
 module _ (s : State) (b : Bounded s) where
-  pub erase-bounded : Bounded (eraseStep s .state)
-  unfolding eraseStep nothing moved
-  erase-bounded =
-      ⊎-elim
-      (λ e. rw e b)
-      (λ e.
-      let n = not-empty (s .gc) e in
-      rw e
-      (record {
+  pub freed-bounded : empty (s .gc) ≡ false → Bounded (freed s)
+  unfolding freed moved
+  freed-bounded h =
+      let n = not-empty (s .gc) h in
+      record {
         reads = b .reads;
         writes = b .writes;
         total = simp (length-append, length-drop) (omega arith);
         next = b .next;
-      }))
-      (true-or-false (empty (s .gc)))
-
-  pub room-bounded : Bounded (makeRoom s .state)
-  unfolding makeRoom nothing
-  room-bounded = ⊎-elim (λ e. rw e erase-bounded) (λ e. rw e b) (true-or-false (empty (s .free)))
+      }
 
   pub drop-write-bounded : (k : ℕ) → Bounded (dropWrite k s)
   unfolding dropWrite moved

@@ -6,14 +6,12 @@ use queue::Queue;
 ghost use mathlib.Core.Path.{_≡_};
 ghost use mathlib.Core.List.{_++_, map};
 ghost use Rattle.lists.specs.Arrays.{joined};
-ghost use Rattle.model.specs.declared.Sizes.{Sizes};
-ghost use Rattle.model.specs.Sizes.{Device};
 ghost use Rattle.model.specs.State.{entry, cachesOf, without};
-ghost use Rattle.model.specs.Steps.{eraseStep, makeRoom, taken, dropWrite, takeCopy};
-ghost use Rattle.model.specs.Operations.{accept, takeWrite, touch};
+ghost use Rattle.model.specs.Steps.{freed, taken, dropWrite, takeCopy};
+ghost use Rattle.model.specs.Operations.{counted, accept, takeWrite, touch, withoutOldest};
 ghost use Rattle.fifo.specs.View.{listOf};
 ghost use Rattle.queue.specs.View.{entriesOf};
-ghost use Rattle.state.specs.View.{viewOf, stateOf, halted, Bounded, stepOf, withoutOldest};
+ghost use Rattle.state.specs.View.{viewOf, stateOf, halted, Bounded};
 
 pub struct State {
     pub sizes: Sizes,
@@ -24,13 +22,6 @@ pub struct State {
     pub free: Fifo,
     pub accepted: u8,
     pub next: u64,
-}
-
-// A state after at most one erase, and which bucket that erases.
-pub struct Room {
-    pub state: State,
-    pub erases: bool,
-    pub erased: usize,
 }
 
 impl State {
@@ -57,45 +48,17 @@ impl State {
         self
     }
 
-    // The GC head, erased, is put last in the free queue.
-    pub fn erase_step(mut self) -> Room
-        requires { ⌜ Bounded (eraseStep (viewOf self) .state) ⌝ }
-        ensures { λ r. ⌜ stepOf r ≡ eraseStep (viewOf self) ⌝ }
+    // The GC head, once erased, is last in the free queue.
+    pub fn freed(mut self) -> Self
+        requires { ⌜ Bounded (freed (viewOf self)) ⌝ }
+        ensures { λ r. ⌜ viewOf r ≡ freed (viewOf self) ⌝ }
     {
-        let n = self.gc.used();
-        if n == 0 {
-            return Room {
-                state: self,
-                erases: false,
-                erased: 0,
-            };
-        }
         let head = self.gc.head();
         let gc = self.gc.rest();
         let free = self.free.push(head);
         self.gc = gc;
         self.free = free;
-        Room {
-            state: self,
-            erases: true,
-            erased: head as usize,
-        }
-    }
-
-    // With an empty free queue, the erase step.
-    pub fn make_room(self) -> Room
-        requires { ⌜ Bounded (makeRoom (viewOf self) .state) ⌝ }
-        ensures { λ r. ⌜ stepOf r ≡ makeRoom (viewOf self) ⌝ }
-    {
-        let n = self.free.used();
-        if n == 0 {
-            return self.erase_step();
-        }
-        Room {
-            state: self,
-            erases: false,
-            erased: 0,
-        }
+        self
     }
 
     // The free head is taken, and the next epoch with it.
@@ -156,7 +119,7 @@ impl State {
 
     // b's read bucket becomes the most recent.
     pub fn touch(mut self, b: u16) -> Self
-        ensures { λ r. ⌜ ((z : Sizes) (d : Device) → viewOf r ≡ touch z d b (viewOf self)) ⌝ }
+        ensures { λ r. ⌜ viewOf r ≡ touch b (viewOf self) ⌝ }
     {
         let reads = most_recent(self.reads, b);
         self.reads = reads;
@@ -176,20 +139,27 @@ impl State {
         self
     }
 
-    // A write of b is accepted, which leaves it the priority p; every 16th halves all priorities.
+    // A write is accepted; every 16th halves all priorities.
+    pub fn counted(mut self) -> Self
+        ensures { λ r. ⌜ viewOf r ≡ counted (viewOf self) ⌝ }
+    {
+        if 15 <= self.accepted {
+            let writes = self.writes.halve();
+            self.writes = writes;
+            self.accepted = 0;
+            return self;
+        }
+        self.accepted = self.accepted + 1;
+        self
+    }
+
+    // A write of b is accepted, which leaves it the priority p.
     pub fn accept(mut self, b: u16, p: u8) -> Self
         ensures { λ r. ⌜ viewOf r ≡ accept b p (viewOf self) ⌝ }
     {
         let writes = self.writes.prioritise(b, p);
-        if 15 <= self.accepted {
-            let halves = writes.halve();
-            self.writes = halves;
-            self.accepted = 0;
-            return self;
-        }
         self.writes = writes;
-        self.accepted = self.accepted + 1;
-        self
+        self.counted()
     }
 }
 

@@ -4,18 +4,19 @@ use mathlib.Core.Path.{_≡_}
 use mathlib.Core.Bool.{true}
 use lib.ListN.{length}
 use Rattle.lists.specs.Lists.{all}
+use Rattle.model.specs.Sizes.{body}
 use Rattle.model.specs.State.{State, caches, isBelow}
-use Rattle.geometry.specs.Geometry.{Limits}
+use Rattle.model.proofs.Limits.{Limits}
 use Rattle.state.specs.View.{Bounded}
 
--- sizes within their limits, queues within the struct's places, and each cache bucket in them one of the chip's
+-- sizes within their limits, queues within the struct's places, and each cache bucket in them one that may stand there
 pub record Orderly (s : State) : Type 0 where
   pub limits : Limits (s .sizes)
   pub bounded : Bounded s
-  pub reads : all (isBelow (s .sizes .c)) (caches (s .reads)) ≡ true
-  pub writes : all (isBelow (s .sizes .c)) (caches (s .writes)) ≡ true
-  pub gc : all (isBelow (s .sizes .c)) (s .gc) ≡ true
-  pub free : all (isBelow (s .sizes .c)) (s .free) ≡ true
+  pub reads : all (isBelow (body (s .sizes))) (caches (s .reads)) ≡ true
+  pub writes : all (isBelow (body (s .sizes))) (caches (s .writes)) ≡ true
+  pub gc : all (isBelow (body (s .sizes))) (s .gc) ≡ true
+  pub free : all (isBelow (body (s .sizes))) (s .free) ≡ true
 
 -- and Allocate finds a bucket
 pub record Ready (s : State) : Type 0 where

@@ -1,9 +1,9 @@
--- Plans carried out one after the other.
+-- Steps carried out one after the other.
 use mathlib.Core.List.{List}
 use Prim.Native.Nat.{ℕ}
 use Rattle.model.specs.declared.Sizes.{Sizes}
 use Rattle.model.specs.State.{State}
-use Rattle.model.specs.Steps.{Plan}
+use Rattle.model.specs.Steps.{Step}
 use Rattle.meter.specs.Run.{Run, running, runAll}
 use Rattle.state.specs.View.{viewOf}
 use Rattle.steps.specs.declared.Turn.{Turn}
@@ -16,6 +16,6 @@ pub record Progress : Type 0 where
 abbrev pub reached : (flash spare disk : List ℕ) → Turn → Progress
 reached f s d t = record { run = running f s d (t .meter); state = viewOf (t .state) }
 
--- once all stores of the plan are asked for
-unfoldable pub after : Sizes → Plan → Run → Progress
-after z p r = record { run = runAll z (p .stores) r; state = p .state }
+-- once all stores of the step are asked for that it plans from the chip and disk of the run
+unfoldable pub after : Sizes → Step → State → Run → Progress
+after z f s r = record { run = runAll z (f s (r .device) .stores) r; state = f s (r .device) .state }

@@ -1,13 +1,13 @@
-// An operation under way, and the step that every allocation begins with.
+// An operation under way, and the steps that others begin with.
 use meter::Meter;
 use state::State;
 ghost use mathlib.Core.Path.{_≡_};
-ghost use Rattle.model.specs.Steps.{makeRoom};
+ghost use Rattle.model.specs.Steps.{eraseStep, makeRoom};
 ghost use Rattle.geometry.specs.Geometry.{Lent};
 ghost use Rattle.meter.specs.Run.{running};
 ghost use Rattle.state.specs.View.{viewOf};
 ghost use Rattle.steps.specs.Turns.{reached, after};
-ghost use Rattle.steps.specs.Ready.{Ready};
+ghost use Rattle.steps.specs.Ready.{Orderly};
 
 // The allowance and the state that the steps so far leave.
 pub struct Turn {
@@ -15,7 +15,30 @@ pub struct Turn {
     pub state: State,
 }
 
-// With an empty free queue, the GC head is erased.
+// The GC head, if there is one, is erased.
+pub fn erase_step(
+    meter: Meter,
+    s: State,
+    flash: &mut [u8],
+    spare: &mut [u8],
+    disk: &mut [u8],
+) -> Turn
+    requires { ⌜ Lent (s .sizes) (now flash) (now spare) (now disk) ⌝ }
+    requires { ⌜ Orderly (viewOf s) ⌝ }
+    ensures { λ r. ⌜ reached (now (flash .exit)) (now (spare .exit)) (now (disk .exit)) r ≡ after (s .sizes) (eraseStep (s .sizes)) (viewOf s) (running (now (flash .entry)) (now (spare .entry)) (now (disk .entry)) meter) ⌝ }
+    ensures { λ _. ⌜ Lent (s .sizes) (now (flash .exit)) (now (spare .exit)) (now (disk .exit)) ⌝ }
+{
+    let n = s.gc.used();
+    if n == 0 {
+        return Turn { meter, state: s };
+    }
+    let head = s.gc.head() as usize;
+    let left = meter::erase_bucket(meter, s.sizes, head, flash, spare, disk);
+    let state = s.freed();
+    Turn { meter: left, state }
+}
+
+// With an empty free queue, the erase step.
 pub fn make_room(
     meter: Meter,
     s: State,
@@ -24,16 +47,13 @@ pub fn make_room(
     disk: &mut [u8],
 ) -> Turn
     requires { ⌜ Lent (s .sizes) (now flash) (now spare) (now disk) ⌝ }
-    requires { ⌜ Ready (viewOf s) ⌝ }
-    ensures { λ r. ⌜ reached (now (flash .exit)) (now (spare .exit)) (now (disk .exit)) r ≡ after (s .sizes) (makeRoom (viewOf s)) (running (now (flash .entry)) (now (spare .entry)) (now (disk .entry)) meter) ⌝ }
+    requires { ⌜ Orderly (viewOf s) ⌝ }
+    ensures { λ r. ⌜ reached (now (flash .exit)) (now (spare .exit)) (now (disk .exit)) r ≡ after (s .sizes) (makeRoom (s .sizes)) (viewOf s) (running (now (flash .entry)) (now (spare .entry)) (now (disk .entry)) meter) ⌝ }
     ensures { λ _. ⌜ Lent (s .sizes) (now (flash .exit)) (now (spare .exit)) (now (disk .exit)) ⌝ }
 {
-    let z = s.sizes;
-    let room = s.make_room();
-    let state = room.state;
-    if room.erases {
-        let left = meter::erase_bucket(meter, z, room.erased, flash, spare, disk);
-        return Turn { meter: left, state };
+    let n = s.free.used();
+    if n == 0 {
+        return erase_step(meter, s, flash, spare, disk);
     }
-    Turn { meter, state }
+    Turn { meter, state: s }
 }

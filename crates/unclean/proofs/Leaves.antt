@@ -8,7 +8,7 @@ use Rattle.lists.proofs.Orders.{length-sort}
 use Rattle.model.specs.declared.Sizes.{Sizes}
 use Rattle.model.specs.Sizes.{Device}
 use Rattle.model.specs.Stores.{tagOf}
-use Rattle.model.specs.Image.{used, epochOf, isDirty}
+use Rattle.model.specs.Image.{headTag, used, epochOf, isDirty}
 use Rattle.model.specs.State.{State, caches}
 use Rattle.model.specs.Operations.{unclean, isUnclean, isClean, drained, drain}
 use Rattle.image.specs.Chip.{spareOnly}
@@ -20,9 +20,9 @@ module _ (z : Sizes) (d : Device) (s : State) where
       simp (length-append, length-sort (epochOf z d), length-map) (omega (arith, keep-length (isUnclean z d s) (s .reads)))
 
   pub same-unclean : (b : ℕ) → unclean z (spareOnly (d .spare)) s b ≡ unclean z d s b
-  unfolding unclean isDirty tagOf
+  unfolding unclean isDirty headTag tagOf
   same-unclean b = refl
 
-  pub same-drained : drain z (spareOnly (d .spare)) s .state ≡ drain z d s .state
-  unfolding drain drained isClean isUnclean unclean isDirty epochOf used tagOf
+  pub same-drained : drain z s (spareOnly (d .spare)) .state ≡ drain z s d .state
+  unfolding drain drained isClean isUnclean unclean isDirty epochOf used headTag tagOf
   same-drained = refl

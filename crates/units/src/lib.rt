@@ -7,7 +7,8 @@ ghost use Prim.Native.Nat.{_<_};
 ghost use lib.ListN.{length};
 ghost use Rattle.model.specs.Sizes.{bucketSize};
 ghost use Rattle.model.specs.Stores.{unitStore, unitStores};
-ghost use Rattle.geometry.specs.Geometry.{Limits, Lent};
+ghost use Rattle.model.proofs.Limits.{Limits};
+ghost use Rattle.geometry.specs.Geometry.{Lent};
 ghost use Rattle.meter.specs.Run.{running, step, runAll};
 
 // Unit u of the back-end bucket b, of all the bucket's bytes.

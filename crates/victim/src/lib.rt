@@ -1,6 +1,8 @@
-// Which Write bucket is evicted where the queue is full: the smallest priority, then the smallest epoch.
+// Which Write bucket gives way to a log.
 use model::Entry;
 use model::Sizes;
+use model::Victim;
+use queue::Queue;
 use state::State;
 ghost use mathlib.Core.Path.{_≡_};
 ghost use mathlib.Core.Bool.{true};
@@ -8,24 +10,41 @@ ghost use Prim.Native.Nat.{_≤_, _<_};
 ghost use lib.ListN.{take, drop, getD};
 ghost use Rattle.lists.specs.Lists.{all};
 ghost use Rattle.model.specs.State.{caches, isBelow};
-ghost use Rattle.model.specs.Operations.{goesFirst, leastOf, victim};
+ghost use Rattle.model.specs.Operations.{goesFirst, leastOf, victim, outgoing};
 ghost use Rattle.image.specs.Chip.{Chip, spareOnly};
 ghost use Rattle.queue.specs.View.{entriesOf, noEntry};
 ghost use Rattle.state.specs.View.{viewOf};
 
-// Its back-end bucket, 0 where the write queue is empty.
-pub fn victim(s: State, spare: &[u8]) -> u16
+// b's own, which is too full; or, in a full queue, the victim's.
+pub fn outgoing(s: State, b: u16, spare: &[u8]) -> Victim
     requires { ⌜ Chip (s .sizes) (now spare) ⌝ }
     requires { ⌜ all (isBelow (s .sizes .c)) (caches (entriesOf (s .writes))) ≡ true ⌝ }
-    ensures { λ r. ⌜ r ≡ victim (s .sizes) (spareOnly (now (spare .entry))) (viewOf s) ⌝ }
+    ensures { λ r. ⌜ r ≡ outgoing (s .sizes) (spareOnly (now (spare .entry))) b (viewOf s) ⌝ }
 {
     let writes = s.writes;
+    if writes.holds(b) {
+        return Victim::Bucket(b);
+    }
     let n = writes.used();
+    if s.sizes.w <= n {
+        let back = victim_of(writes, s.sizes, spare);
+        return Victim::Bucket(back);
+    }
+    Victim::Nobody
+}
+
+// The back-end bucket of the smallest priority, then the smallest epoch; 0 where there is none.
+fn victim_of(candidates: Queue, z: Sizes, spare: &[u8]) -> u16
+    requires { ⌜ Chip z (now spare) ⌝ }
+    requires { ⌜ all (isBelow (z .c)) (caches (entriesOf candidates)) ≡ true ⌝ }
+    ensures { λ r. ⌜ r ≡ victim z (spareOnly (now (spare .entry))) (entriesOf candidates) ⌝ }
+{
+    let n = candidates.used();
     if n == 0 {
         return 0;
     }
-    let items = writes.items;
-    let least = least_of(items, n, s.sizes, spare);
+    let items = candidates.items;
+    let least = least_of(items, n, z, spare);
     least.back
 }
 

@@ -1,3 +1,2 @@
 pub mod Yielded
 pub mod Opened
-pub mod Ended

@@ -1,6 +1,7 @@
 // The write.
 use meter::Meter;
 use model::Answer;
+use model::Victim;
 use outcome::Outcome;
 use state::State;
 use steps::Turn;
@@ -16,7 +17,7 @@ ghost use Rattle.steps.specs.Turns.{reached, after};
 ghost use Rattle.outcome.specs.Handed.{handedBack, handed};
 ghost use Rattle.write.specs.Writes.{Yields, Writes};
 
-// b's own Write bucket, which is too full, gives way; or, in a full queue, the victim.
+// The Write bucket that gives way to the log, if one does, is evicted.
 fn make_way(
     meter: Meter,
     s: State,
@@ -27,18 +28,14 @@ fn make_way(
 ) -> Turn
     requires { ⌜ Lent (s .sizes) (now flash) (now spare) (now disk) ⌝ }
     requires { ⌜ Yields (viewOf s) (now spare) ⌝ }
-    ensures { λ r. ⌜ reached (now (flash .exit)) (now (spare .exit)) (now (disk .exit)) r ≡ after (s .sizes) (makeWay (s .sizes) (device (now (flash .entry)) (now (spare .entry)) (now (disk .entry))) b (viewOf s)) (running (now (flash .entry)) (now (spare .entry)) (now (disk .entry)) meter) ⌝ }
+    ensures { λ r. ⌜ reached (now (flash .exit)) (now (spare .exit)) (now (disk .exit)) r ≡ after (s .sizes) (makeWay (s .sizes) b) (viewOf s) (running (now (flash .entry)) (now (spare .entry)) (now (disk .entry)) meter) ⌝ }
     ensures { λ _. ⌜ Lent (s .sizes) (now (flash .exit)) (now (spare .exit)) (now (disk .exit)) ⌝ }
 {
-    if s.writes.holds(b) {
-        return evict::evict(meter, s, b, flash, spare, disk);
+    let out = victim::outgoing(s, b, spare);
+    match out {
+        Victim::Bucket(v) => evict::evict(meter, s, v, flash, spare, disk),
+        Victim::Nobody => Turn { meter, state: s },
     }
-    let n = s.writes.used();
-    if s.sizes.w <= n {
-        let out = victim::victim(s, spare);
-        return evict::evict(meter, s, out, flash, spare, disk);
-    }
-    Turn { meter, state: s }
 }
 
 // All stores of the write, and the state that it leaves.
@@ -54,7 +51,7 @@ fn write_log(
 ) -> Turn
     requires { ⌜ Lent (s .sizes) (now flash) (now spare) (now disk) ⌝ }
     requires { ⌜ Writes (viewOf s) (length (now bytes)) (now spare) ⌝ }
-    ensures { λ r. ⌜ reached (now (flash .exit)) (now (spare .exit)) (now (disk .exit)) r ≡ after (s .sizes) (write (s .sizes) (device (now (flash .entry)) (now (spare .entry)) (now (disk .entry))) b offset (now (bytes .entry)) (viewOf s)) (running (now (flash .entry)) (now (spare .entry)) (now (disk .entry)) meter) ⌝ }
+    ensures { λ r. ⌜ reached (now (flash .exit)) (now (spare .exit)) (now (disk .exit)) r ≡ after (s .sizes) (write (s .sizes) b offset (now (bytes .entry))) (viewOf s) (running (now (flash .entry)) (now (spare .entry)) (now (disk .entry)) meter) ⌝ }
     ensures { λ _. ⌜ Lent (s .sizes) (now (flash .exit)) (now (spare .exit)) (now (disk .exit)) ⌝ }
 {
     let n = bytes.len();
@@ -79,7 +76,7 @@ fn write_bytes(
 ) -> Outcome
     requires { ⌜ Lent (s .sizes) (now flash) (now spare) (now disk) ⌝ }
     requires { ⌜ Writes (viewOf s) (length (now bytes)) (now spare) ⌝ }
-    ensures { λ r. ⌜ handedBack (device (now (flash .exit)) (now (spare .exit)) (now (disk .exit))) [] r ≡ handed s (carryOut allowance (writeCall b offset (now (bytes .entry))) (viewOf s) (device (now (flash .entry)) (now (spare .entry)) (now (disk .entry))) (write (s .sizes) (device (now (flash .entry)) (now (spare .entry)) (now (disk .entry))) b offset (now (bytes .entry)) (viewOf s))) ⌝ }
+    ensures { λ r. ⌜ handedBack (device (now (flash .exit)) (now (spare .exit)) (now (disk .exit))) [] r ≡ handed s (carryOut allowance (writeCall b offset (now (bytes .entry))) (viewOf s) (device (now (flash .entry)) (now (spare .entry)) (now (disk .entry))) (write (s .sizes) b offset (now (bytes .entry)) (viewOf s) (device (now (flash .entry)) (now (spare .entry)) (now (disk .entry))))) ⌝ }
 {
     let whole = Meter {
         left: allowance,

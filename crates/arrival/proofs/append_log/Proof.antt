@@ -69,10 +69,9 @@ same-length-3 c = search needs
 
 returns : tie.Need-returns
 returns c = let a = c .before .before .before .before .before .before .before .before .before .before .before .before .before .before .before .before .before .before .before .before .before .before .before .args in
-    let d = device (a .flash .now) (a .spare .now) (a .disk .now) in
     let written = c .before .before .before .before .before .before .before .program-log .ensures in (
       rw (written .0, c .accept .ensures)
-          (appended-by (a .s .sizes) d (a .b) (a .offset) (a .bytes .now) (viewOf (a .s)) _ (c .before .before .before .before .before .before .before .before .before .before .before .before .before .before .before .before .before .cache-of .result) (c .before .before .before .before .before .before .before .before .before .before .before .before .before .before .before .blanks .result) (c .before .before .before .before .before .before .before .before .before .before .before .before .before .epoch-of .result) (c .before .before .before .before .before .before .before .before .before .before .before .before .pages-for .result) (c .before .before .before .before .before .before .before .before .before .before .before .before .before .before .before .before .before .cache-of .ensures) (c .before .before .before .before .before .before .before .before .before .before .before .before .before .before .before .blanks .ensures) (c .before .before .before .before .before .before .before .before .before .before .before .before .before .epoch-of .ensures) (c .before .before .before .before .before .before .before .before .before .before .before .before .pages-for .ensures)),
+          (appended-by (a .s .sizes) (a .b) (a .offset) (a .bytes .now) (viewOf (a .s)) _ (c .before .before .before .before .before .before .before .before .before .before .before .before .before .before .before .before .before .cache-of .result) (c .before .before .before .before .before .before .before .before .before .before .before .before .before .before .before .blanks .result) (c .before .before .before .before .before .before .before .before .before .before .before .before .before .epoch-of .result) (c .before .before .before .before .before .before .before .before .before .before .before .before .pages-for .result) (c .before .before .before .before .before .before .before .before .before .before .before .before .before .before .before .before .before .cache-of .ensures) (c .before .before .before .before .before .before .before .before .before .before .before .before .before .before .before .blanks .ensures) (c .before .before .before .before .before .before .before .before .before .before .before .before .before .epoch-of .ensures) (c .before .before .before .before .before .before .before .before .before .before .before .before .pages-for .ensures)),
       written .1,
     )
 

@@ -2,7 +2,7 @@ use Rattle.arrival.proofs.Arrived.{started-by, arrival-bounded}
 use Rattle.copying.proofs.Copied.{log-left}
 use Rattle.state.specs.View.{viewOf}
 use Rattle.geometry.proofs.Passed.{products}
-use Rattle.model.proofs.Bounds.{pages-fit}
+use Rattle.model.proofs.Limits.{pages-fit}
 use Rattle.model.specs.Sizes.{bucketSize}
 use lib.ListN.{length}
 use native.Mathlib.Omega.{arith}
@@ -46,9 +46,8 @@ same-length-3 c = search needs
 returns : tie.Need-returns
 returns c = let a = c .before .before .before .before .before .before .before .before .before .before .before .before .before .before .before .before .before .before .before .before .args in
     let fresh = c .before .before .before .before .before .before .before .before .before .fresh-log .ensures in (
-      λ d.
-          rw (c .accept .ensures, c .before .take-write .ensures)
-          (started-by (a .s .sizes) (a .b) (a .offset) (a .bytes .now) (viewOf (a .s)) _ (c .before .before .before .before .before .before .before .before .before .before .before .before .before .before .pages-for .result) (fresh .0) (c .before .before .before .before .before .before .before .before .before .before .before .before .before .before .pages-for .ensures) d),
+      rw (c .accept .ensures, c .before .take-write .ensures)
+          (started-by (a .s .sizes) (a .b) (a .offset) (a .bytes .now) (viewOf (a .s)) _ (c .before .before .before .before .before .before .before .before .before .before .before .before .before .before .pages-for .result) (fresh .0) (c .before .before .before .before .before .before .before .before .before .before .before .before .before .before .pages-for .ensures)),
       fresh .1,
     )
 

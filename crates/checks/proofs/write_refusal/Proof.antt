@@ -3,7 +3,7 @@ use mathlib.Core.Path.{_≡_, sym, ap, _∙_}
 use native.Mathlib.Omega.{arith}
 use lib.Dec.{leb}
 use borrow.Author.Tests.{le-leb, lt-leb}
-use Rattle.model.specs.Calls.{firstFailed}
+use Rattle.model.specs.Tests.{firstFailed}
 use Rattle.geometry.specs.Geometry.{device}
 use Rattle.model.specs.Operations.{lastEpoch}
 use Rattle.state.specs.View.{viewOf}

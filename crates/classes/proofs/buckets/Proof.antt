@@ -1,6 +1,7 @@
 use Rattle.classes.proofs.Selections.{take-more, pass-more}
 use Rattle.classes.specs.Classes.{isKind}
 use Rattle.lists.specs.Lists.{keep, row, below}
+use Rattle.model.specs.Sizes.{body}
 use Rattle.model.specs.Recover.{buckets}
 use Rattle.image.specs.Chip.{spareOnly}
 use borrow.Author.Needs.{needs}
@@ -15,10 +16,13 @@ use Rattle.classes.proofs.buckets.Statement.{statement}
 use Rattle.classes.proofs.buckets.Tie as tie
 
 abbrev Inv-loop : tie.InvT-loop
-Inv-loop z kind spare items₀ n₀ c₀ items n c = (c ≤ z .c) × (n ≤ c) × (length items ≡ 256) × (take n items ≡ keep (isKind z (spareOnly spare) kind) (below c))
+Inv-loop z kind spare end items₀ n₀ c₀ items n c = (c ≤ end) × (n ≤ c) × (length items ≡ 256) × (take n items ≡ keep (isKind z (spareOnly spare) kind) (below c))
 
 abbrev μ-loop : tie.MeasureT-loop
-μ-loop z kind spare items₀ n₀ c₀ items n c = z .c - c
+μ-loop z kind spare end items₀ n₀ c₀ items n c = end - c
+
+body-requires : tie.Need-body-requires Inv-loop μ-loop
+body-requires c κs = search needs
 
 loop-holds : tie.Need-loop-holds Inv-loop μ-loop
 unfolding keep below row
@@ -44,7 +48,7 @@ loop-less c = omega arith
 
 loop-again : tie.Need-loop-again Inv-loop μ-loop
 loop-again c =
-    let l = c .before .before .before .before .loop in
+    let l = c .before .before .before .loop in
     let a = c .before .before .before .before .before .before .args in
     let e = sym (c .before .is-a .ensures) in
     let t = isKind (a .z) (spareOnly (a .spare .now)) (a .kind) in
@@ -61,12 +65,12 @@ loop-again c =
       ap length (w .1) ∙ l .inv .2,
       rw (w .2, w .1, l .inv .3) (sym (pass-more t (l .c) (e ∙ w .0 .left))),
     ))
-    (c .if2 .came)
+    (c .if1 .came)
 
 returns : tie.Need-returns Inv-loop μ-loop
 unfolding buckets
-returns c = let l = c .before .before .loop in
-    let e : l .c ≡ c .before .before .before .before .args .z .c = omega arith in
+returns c = let l = c .before .loop in
+    let e : l .c ≡ body (c .before .before .before .before .args .z) = omega arith in
     rw e at (l .inv .3)
 
 pub buckets-spec : {M : Type 1} → statement M
@@ -75,6 +79,7 @@ buckets-spec =
     (tie.spec
     Inv-loop
     μ-loop
+    body-requires
     loop-holds
     is-a-requires
     cast-items

@@ -1,4 +1,5 @@
 use mathlib.Core.Path.{_≡_, refl, sym, ap, _∙_}
+use Rattle.model.proofs.Limits.{on-chip}
 use mathlib.Core.Bool.{true, false}
 use mathlib.Core.List.{List}
 use Prim.Native.Nat.{ℕ, _-_, _≤_}
@@ -42,7 +43,7 @@ is-a-requires c κs =
     let start = c .before .before .before .before .before in
     let u = c .before .before .before .used in
     let l = c .before .loop in
-    (start .pre .0, listed (start .args .z) (start .args .list) (u .result) (l .i) (start .pre .1) (u .ensures .0) (omega (arith, l .inv .3)) (c .loop-test .taken))
+    (start .pre .0, on-chip (start .args .z) _ (listed (start .args .z) (start .args .list) (u .result) (l .i) (start .pre .1) (u .ensures .0) (omega (arith, l .inv .3)) (c .loop-test .taken)))
 
 add-count : tie.Need-add-count Inv-loop μ-loop
 add-count c = omega arith

@@ -1,4 +1,5 @@
 use Rattle.classes.proofs.Choices.{listed}
+use Rattle.model.proofs.Limits.{on-chip}
 use Rattle.classes.proofs.Selections.{push-kept, pass-kept}
 use Rattle.classes.specs.Classes.{isKept}
 use Rattle.lists.proofs.Arrays.{take-used}
@@ -41,7 +42,7 @@ cast-is-kept c = search needs
 
 is-kept-requires : tie.Need-is-kept-requires Inv-loop μ-loop
 is-kept-requires c κs = let start = c .before .before .before .before .before .before in let u = c .before .before .before .before .used in let l = c .before .loop in
-    (start .pre .0, (listed (start .args .z) (start .args .«from») (u .result) (l .i) (start .pre .1 .0) (u .ensures .0) (omega (arith, l .inv .2)) (c .loop-test .taken), start .pre .1 .1))
+    (start .pre .0, (on-chip (start .args .z) _ (listed (start .args .z) (start .args .«from») (u .result) (l .i) (start .pre .1 .0) (u .ensures .0) (omega (arith, l .inv .2)) (c .loop-test .taken)), start .pre .1 .1))
 
 push-requires : tie.Need-push-requires Inv-loop μ-loop
 push-requires c κs = search needs

@@ -1,8 +1,9 @@
+use mathlib.Core.Path.{refl}
 use Rattle.copying.proofs.Copied.{room-left, logged-by}
 use Rattle.steps.proofs.Kept.{free-head}
 use Rattle.state.specs.View.{viewOf}
 use Rattle.meter.specs.Run.{running}
-use Rattle.model.proofs.Bounds.{pages-fit}
+use Rattle.model.proofs.Limits.{pages-fit, on-chip}
 use lib.ListN.{length}
 use native.Mathlib.Omega.{arith}
 use borrow.Author.Needs.{needs}
@@ -30,7 +31,7 @@ program-log-requires c κs = let start = c .before .before .before .before .befo
       room .ensures .1,
       record {
         limits = limits;
-        bucket = omega (arith, c .before .before .before .before .head .ensures, free-head (room-left _ _ _ (room .ensures .0) (fresh .ready)));
+        bucket = rw (c .before .before .before .before .head .ensures) (on-chip z _ (free-head (room-left _ _ _ (room .ensures .0) (fresh .ready))));
         some = fresh .some;
         room = omega (arith, pages-fit z (length (start .args .bytes .now)) (omega (arith, limits .s-low)) (fresh .room));
       },
@@ -49,7 +50,7 @@ returns : tie.Need-returns
 returns c = let a = c .before .before .before .before .before .before .before .before .before .before .before .before .before .before .before .before .before .before .before .before .before .before .before .before .before .before .before .before .args in
     let written = c .before .before .before .before .before .before .program-log .ensures in (
       rw (written .0, c .before .before .before .before .before .before .before .before .before .before .before .head .ensures)
-          (logged-by (a .s .sizes) (viewOf (a .s)) (running (a .flash .now) (a .spare .now) (a .disk .now) (a .meter)) (c .before .before .before .before .before .before .before .before .before .before .before .before .before .before .before .before .before .before .before .make-room .ensures .0) (a .kind) (a .b) (a .offset) (a .bytes .now)),
+          (logged-by (a .s .sizes) (viewOf (a .s)) (running (a .flash .now) (a .spare .now) (a .disk .now) (a .meter)) (c .before .before .before .before .before .before .before .before .before .before .before .before .before .before .before .before .before .before .before .make-room .ensures .0) refl (a .kind) (a .b) (a .offset) (a .bytes .now)),
       written .1,
     )
 

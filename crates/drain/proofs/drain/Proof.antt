@@ -12,8 +12,8 @@ use Rattle.drain.proofs.drain.Tie as tie
 running-refusal-requires : tie.Need-running-refusal-requires
 running-refusal-requires c κs = search needs
 
-drain-queues-requires : tie.Need-drain-queues-requires
-drain-queues-requires c κs = let a = c .before .before .before .before .before .before .before .before .before .before .before .args in
+drain-whole-requires : tie.Need-drain-whole-requires
+drain-whole-requires c κs = let a = c .before .before .before .before .before .before .before .before .before .before .before .args in
     let opened = running-opens (viewOf (a .s)) (device (a .flash .now) (a .spare .now) (a .disk .now)) (sym (c .before .before .before .before .running-refusal .ensures) ∙ c .before .before .before .if1 .taken) in
     (opened .image .lent, drains opened)
 
@@ -33,7 +33,7 @@ returns : tie.Need-returns
 unfolding tests refusal planOf
 returns c = let a = c .before .before .before .before .before .before .before .before .before .before .before .before .before .before .before .before .before .before .args in
     let d = device (a .flash .now) (a .spare .now) (a .disk .now) in
-    c .before .before .before .before .before .before .drain-queues .ensures ∙ handed-taken (a .allowance) drainCall (a .s) d (sym (c .before .before .before .before .before .before .before .before .before .before .before .running-refusal .ensures) ∙ c .before .before .before .before .before .before .before .before .before .before .if1 .taken)
+    c .before .before .before .before .before .before .drain-whole .ensures ∙ handed-taken (a .allowance) drainCall (a .s) d (sym (c .before .before .before .before .before .before .before .before .before .before .before .running-refusal .ensures) ∙ c .before .before .before .before .before .before .before .before .before .before .if1 .taken)
 
 same-length-4 : tie.Need-same-length-4
 same-length-4 c = search needs
@@ -56,7 +56,7 @@ drain-spec =
     tie.close
     (tie.spec
     running-refusal-requires
-    drain-queues-requires
+    drain-whole-requires
     refused-requires
     same-length
     same-length-2

@@ -3,7 +3,7 @@ use borrow.Author.Tests.{not-true, not-false}
 use mathlib.Core.Bool.{true, false}
 use mathlib.Core.Path.{_≡_, sym, ap, _∙_}
 use borrow.Author.Needs.{needs}
-use Rattle.geometry.proofs.Passed.{limits-hold}
+use Rattle.model.proofs.Limits.{limits-of}
 use Rattle.model.specs.Driving.{bytesOf, formatSizes, tooLarge}
 use Rattle.model.specs.Sizes.{limits}
 use Rattle.model.specs.declared.Sizes.{Sizes}
@@ -34,7 +34,7 @@ returns c = let start = c .before .before .before .before .before .before .befor
     )
 
 too-large-requires : tie.Need-too-large-requires
-too-large-requires c κs = limits-hold (c .before .before .before .before .before .before .before .before .args .z) (sym (c .before .limits .ensures) ∙ not-false (c .before .limits .result) (c .if1 .left))
+too-large-requires c κs = limits-of (c .before .before .before .before .before .before .before .before .args .z) (sym (c .before .limits .ensures) ∙ not-false (c .before .limits .result) (c .if1 .left))
 
 no-call-requires-2 : tie.Need-no-call-requires-2
 no-call-requires-2 c κs = search needs

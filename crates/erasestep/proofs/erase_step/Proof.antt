@@ -15,7 +15,7 @@ erase-head-requires : tie.Need-erase-head-requires
 erase-head-requires c κs =
     let a = c .before .before .before .before .before .before .before .before .before .before .before .args in
     let opened = running-opens (viewOf (a .s)) (device (a .flash .now) (a .spare .now) (a .disk .now)) (sym (c .before .before .before .before .running-refusal .ensures) ∙ c .before .before .before .if1 .taken) in
-    (opened .image .lent, (open-orderly opened .bounded, open-orderly opened .gc))
+    (opened .image .lent, open-orderly opened)
 
 refused-requires : tie.Need-refused-requires
 refused-requires c κs = search needs

@@ -1,3 +1,4 @@
+use mathlib.Core.Path.{refl}
 use Rattle.evict.proofs.Evicted.{dropped-left, evicted-by}
 use Rattle.state.specs.View.{viewOf}
 use Rattle.gather.proofs.Gathered.{sources-of}
@@ -34,9 +35,8 @@ same-length-4 c = omega (arith, c .before .before .before .before .before .befor
 returns : tie.Need-returns
 returns c = let start = c .before .before .before .before .before .before .before .before .before .before .before .before .before .before .before .before .before .before .before .before .before .before .before .before in
     let a = start .args in
-    let d = device (a .flash .now) (a .spare .now) (a .disk .now) in
     let put = c .before .before .before .before .before .before .before .before .put-away .ensures in
-    (rw (c .drop-write .ensures) (evicted-by (viewOf (a .s)) (a .b) (start .pre .1 .0 .0) (a .s .sizes) _ _ (put .0) d (c .before .before .before .before .before .before .before .before .before .before .before .before .before .before .before .merged-into .ensures)), put .1)
+    (rw (c .drop-write .ensures) (evicted-by (viewOf (a .s)) (a .b) (start .pre .1 .0 .0) (a .s .sizes) _ _ (put .0) refl (c .before .before .before .before .before .before .before .before .before .before .before .before .before .before .before .merged-into .ensures)), put .1)
 
 pub evict-by-spec : {M : Type 1} → statement M
 evict-by-spec =

@@ -1,3 +1,4 @@
+use Rattle.model.specs.Steps.{writeOut}
 use Rattle.evict.proofs.Evicted.{copies}
 use Rattle.evict.specs.PutAway.{putAway}
 use Rattle.steps.specs.Turns.{after}
@@ -23,7 +24,7 @@ same-length-3 : tie.Need-same-length-3
 same-length-3 c = search needs
 
 returns : tie.Need-returns
-unfolding putAway
+unfolding putAway after
 returns c = (rw (sym (c .before .before .before .before .before .before .before .before .before .before .before .holds .ensures) ∙ c .before .before .before .before .before .before .before .before .before .before .if1 .taken) (c .before .before .before .before .before .before .copy .ensures .0), c .before .before .before .before .before .before .copy .ensures .1)
 
 write-units-requires : tie.Need-write-units-requires
@@ -40,7 +41,7 @@ same-length-6 : tie.Need-same-length-6
 same-length-6 c = search needs
 
 returns-2 : tie.Need-returns-2
-unfolding putAway after
+unfolding putAway writeOut after
 returns-2 c = (rw (sym (c .before .before .before .before .before .before .before .before .before .before .before .before .holds .ensures) ∙ c .before .before .before .before .before .before .before .before .before .before .before .if1 .left, c .before .before .before .before .before .before .write-units .ensures .0), c .before .before .before .before .before .before .write-units .ensures .1)
 
 pub put-away-spec : {M : Type 1} → statement M

@@ -6,6 +6,7 @@ use lib.ListN.{length, take}
 use borrow.Author.Needs.{needs}
 use Rattle.lists.proofs.Arrays.{tested-more, take-used}
 use Rattle.lists.specs.Lists.{all}
+use Rattle.model.specs.Sizes.{body}
 use Rattle.model.specs.State.{isBelow, allBlank}
 use Rattle.image.specs.Chip.{spareOnly}
 use Rattle.state.proofs.Below.{bucket-below}
@@ -13,7 +14,7 @@ use Rattle.fits.proofs.free_blank.Statement.{statement}
 use Rattle.fits.proofs.free_blank.Tie as tie
 
 abbrev Inv-loop : tie.InvT-loop
-Inv-loop z spare n items blank₀ i₀ blank i = (i ≤ n) × (n ≤ 256) × (length items ≡ 256) × (all (isBelow (z .c)) (take n items) ≡ true) × (blank ≡ all (allBlank z (spareOnly spare)) (take i items))
+Inv-loop z spare n items blank₀ i₀ blank i = (i ≤ n) × (n ≤ 256) × (length items ≡ 256) × (all (isBelow (body z)) (take n items) ≡ true) × (blank ≡ all (allBlank z (spareOnly spare)) (take i items))
 
 abbrev μ-loop : tie.MeasureT-loop
 μ-loop z spare n items blank₀ i₀ blank i = n - i
@@ -36,7 +37,7 @@ cast-c c = search needs
 all-blank-requires : tie.Need-all-blank-requires Inv-loop μ-loop
 all-blank-requires c κs = let l = c .before .loop in
     let q = c .before .before .before .before .before .args in
-    (c .before .before .before .before .before .pre .0, (c .before .before .before .before .before .pre .1 .0, bucket-below (q .z .c) (c .before .before .before .used .result) (q .free .items) (l .i) (l .inv .3) (omega arith) (omega arith)))
+    (c .before .before .before .before .before .pre .0, (c .before .before .before .before .before .pre .1 .0, bucket-below (body (q .z)) (c .before .before .before .used .result) (q .free .items) (l .i) (l .inv .3) (omega arith) (omega arith)))
 
 add-i : tie.Need-add-i Inv-loop μ-loop
 add-i c = search needs

@@ -6,7 +6,9 @@ use lib.ListN.{length, take}
 use borrow.Author.Needs.{needs}
 use Rattle.lists.proofs.Arrays.{tested-more, take-used, length-mapped}
 use Rattle.lists.specs.Lists.{all}
+use Rattle.model.specs.Sizes.{body}
 use Rattle.model.specs.State.{caches, isBelow}
+use Rattle.model.proofs.Limits.{on-chip}
 use Rattle.fits.specs.Fits.{agrees}
 use Rattle.image.specs.Chip.{spareOnly}
 use Rattle.queue.specs.View.{noEntry}
@@ -15,7 +17,7 @@ use Rattle.fits.proofs.queue_agrees.Statement.{statement}
 use Rattle.fits.proofs.queue_agrees.Tie as tie
 
 abbrev Inv-loop : tie.InvT-loop
-Inv-loop written z spare n items agree₀ i₀ agree i = (i ≤ n) × (n ≤ 64) × (length items ≡ 64) × (all (isBelow (z .c)) (caches (take n items)) ≡ true) × (agree ≡ all (agrees z (spareOnly spare) written) (take i items))
+Inv-loop written z spare n items agree₀ i₀ agree i = (i ≤ n) × (n ≤ 64) × (length items ≡ 64) × (all (isBelow (body z)) (caches (take n items)) ≡ true) × (agree ≡ all (agrees z (spareOnly spare) written) (take i items))
 
 abbrev μ-loop : tie.MeasureT-loop
 μ-loop written z spare n items agree₀ i₀ agree i = n - i
@@ -38,7 +40,7 @@ array-copy-out-e c = search needs
 entry-agrees-requires : tie.Need-entry-agrees-requires Inv-loop μ-loop
 entry-agrees-requires c κs = let l = c .before .before .loop in
     let q = c .before .before .before .before .before .before .args in
-    (c .before .before .before .before .before .before .pre .0, cache-below (q .z .c) (c .before .before .before .before .used .result) (q .queue .items) (l .i) (l .inv .3) (omega arith) (omega arith))
+    (c .before .before .before .before .before .before .pre .0, on-chip (q .z) _ (cache-below (body (q .z)) (c .before .before .before .before .used .result) (q .queue .items) (l .i) (l .inv .3) (omega arith) (omega arith)))
 
 add-i : tie.Need-add-i Inv-loop μ-loop
 add-i c = search needs

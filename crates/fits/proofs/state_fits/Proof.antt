@@ -3,6 +3,7 @@ use mathlib.Core.Path.{_≡_, sym, _∙_}
 use borrow.Author.Tests.{not-true, not-false}
 use borrow.Author.Needs.{needs}
 use Rattle.lists.proofs.Tests.{every-at}
+use Rattle.model.specs.Sizes.{body}
 use Rattle.model.specs.State.{queued, eachOnce}
 use Rattle.image.specs.Chip.{spareOnly}
 use Rattle.state.specs.View.{viewOf}
@@ -15,7 +16,7 @@ buckets-once-requires c κs = search needs
 
 returns : tie.Need-returns
 returns c = let s = viewOf (c .before .before .before .args .s) in
-    let e : eachOnce (s .sizes .c) (queued s) ≡ false = sym (c .before .buckets-once .ensures) ∙ not-true _ (c .if1 .taken) in
+    let e : eachOnce (body (s .sizes)) (queued s) ≡ false = sym (c .before .buckets-once .ensures) ∙ not-true _ (c .if1 .taken) in
     rw (parts s (spareOnly (c .before .before .before .args .spare .now)), e)
 
 queues-fit-requires : tie.Need-queues-fit-requires
@@ -24,7 +25,7 @@ queues-fit-requires c κs = search needs
 tags-agree-requires : tie.Need-tags-agree-requires
 unfolding eachOnce
 tags-agree-requires c κs = let s = viewOf (c .before .before .before .before .args .s) in
-    let e : eachOnce (s .sizes .c) (queued s) ≡ true = sym (c .before .before .buckets-once .ensures) ∙ not-false _ (c .before .if1 .left) in
+    let e : eachOnce (body (s .sizes)) (queued s) ≡ true = sym (c .before .before .buckets-once .ensures) ∙ not-false _ (c .before .if1 .left) in
     (c .before .before .before .before .pre .0, (c .before .before .before .before .pre .1, every-at _ e 1))
 
 numbers-fit-requires : tie.Need-numbers-fit-requires
@@ -32,7 +33,7 @@ numbers-fit-requires c κs = search needs
 
 returns-2 : tie.Need-returns-2
 returns-2 c = let s = viewOf (c .before .before .before .before .before .before .args .s) in
-    let e : eachOnce (s .sizes .c) (queued s) ≡ true = sym (c .before .before .before .before .buckets-once .ensures) ∙ not-false _ (c .before .before .before .if1 .left) in
+    let e : eachOnce (body (s .sizes)) (queued s) ≡ true = sym (c .before .before .before .before .buckets-once .ensures) ∙ not-false _ (c .before .before .before .if1 .left) in
     rw (parts s (spareOnly (c .before .before .before .before .before .before .args .spare .now)), e, c .numbers-fit .ensures, c .before .tags-agree .ensures, c .before .before .queues-fit .ensures)
 
 pub state-fits-spec : {M : Type 1} → statement M

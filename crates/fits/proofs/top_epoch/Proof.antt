@@ -5,6 +5,7 @@ use native.Mathlib.Numerals.{add-one}
 use native.Mathlib.Omega.{arith}
 use borrow.Author.Needs.{needs}
 use Rattle.lists.specs.Lists.{maxBelow}
+use Rattle.model.specs.Sizes.{body}
 use Rattle.model.specs.State.{topEpoch}
 use Rattle.model.specs.Image.{epochOf}
 use Rattle.image.specs.Chip.{spareOnly}
@@ -12,10 +13,13 @@ use Rattle.fits.proofs.top_epoch.Statement.{statement}
 use Rattle.fits.proofs.top_epoch.Tie as tie
 
 abbrev Inv-loop : tie.InvT-loop
-Inv-loop z spare top₀ c₀ top c = (c ≤ z .c) × (top ≡ maxBelow c (epochOf z (spareOnly spare)))
+Inv-loop z spare end top₀ c₀ top c = (c ≤ end) × (top ≡ maxBelow c (epochOf z (spareOnly spare)))
 
 abbrev μ-loop : tie.MeasureT-loop
-μ-loop z spare top₀ c₀ top c = z .c - c
+μ-loop z spare end top₀ c₀ top c = end - c
+
+body-requires : tie.Need-body-requires Inv-loop μ-loop
+body-requires c κs = search needs
 
 loop-holds : tie.Need-loop-holds Inv-loop μ-loop
 unfolding maxBelow
@@ -35,7 +39,7 @@ loop-less c = search needs
 
 loop-again : tie.Need-loop-again Inv-loop μ-loop
 unfolding maxBelow
-loop-again c = let l = c .before .before .before .before .loop in
+loop-again c = let l = c .before .before .before .loop in
     let h : l .top ≤ c .before .epoch-of .result = omega arith in
     (search needs, rw (add-one (l .c), ← l .inv .1, ← c .before .epoch-of .ensures) (sym (max-eq-right h)))
 
@@ -44,14 +48,14 @@ loop-less-2 c = search needs
 
 loop-again-2 : tie.Need-loop-again-2 Inv-loop μ-loop
 unfolding maxBelow
-loop-again-2 c = let l = c .before .before .before .before .loop in
+loop-again-2 c = let l = c .before .before .before .loop in
     let h : c .before .epoch-of .result ≤ l .top = omega arith in
     (search needs, rw (add-one (l .c), ← c .before .epoch-of .ensures, ← l .inv .1) (sym (max-eq-left h)))
 
 returns : tie.Need-returns Inv-loop μ-loop
 unfolding topEpoch
-returns c = let l = c .before .before .loop in
-    let e : l .c ≡ c .before .before .before .before .args .z .c = omega arith in
+returns c = let l = c .before .loop in
+    let e : l .c ≡ body (c .before .before .before .before .args .z) = omega arith in
     l .inv .1 ∙ rw e
 
 pub top-epoch-spec : {M : Type 1} → statement M
@@ -60,6 +64,7 @@ top-epoch-spec =
     (tie.spec
     Inv-loop
     μ-loop
+    body-requires
     loop-holds
     epoch-of-requires
     cast-epoch

@@ -1,3 +1,4 @@
+use Rattle.model.proofs.Limits.{on-chip}
 use Rattle.gather.proofs.Gathered.{readable, base-size}
 use Rattle.merge.proofs.SameChip.{same-merge}
 use Rattle.state.specs.View.{viewOf}
@@ -11,7 +12,7 @@ use Rattle.gather.proofs.merged_range.Tie as tie
 
 base-range-requires : tie.Need-base-range-requires
 base-range-requires c κs = let p = c .before .before .before .before .before .pre in
-    (p .0 .limits, ((p .0 .lent .flash-length, p .0 .lent .disk-length), ((p .0 .read, p .0 .back), p .1)))
+    (p .0 .limits, ((p .0 .lent .flash-length, p .0 .lent .disk-length), ((on-chip _ _ (p .0 .read), p .0 .back), p .1)))
 
 holds-requires : tie.Need-holds-requires
 holds-requires c κs = search needs

@@ -1,5 +1,6 @@
-use Rattle.geometry.proofs.Passed.{limits-hold}
-use Rattle.model.specs.Calls.{firstFailed, lentTests}
+use Rattle.model.proofs.Limits.{limits-of}
+use Rattle.model.specs.Tests.{firstFailed}
+use Rattle.model.specs.Calls.{lentTests}
 use mathlib.Core.Path.{sym, _∙_}
 use borrow.Author.Needs.{needs}
 use Rattle.geometry.proofs.lent_refusal.Statement.{statement}
@@ -9,7 +10,7 @@ limits-requires : tie.Need-limits-requires
 limits-requires c κs = search needs
 
 lengths-requires : tie.Need-lengths-requires
-lengths-requires c κs = limits-hold _ (sym (c .before .limits .ensures) ∙ c .if1 .taken)
+lengths-requires c κs = limits-of _ (sym (c .before .limits .ensures) ∙ c .if1 .taken)
 
 returns : tie.Need-returns
 unfolding firstFailed lentTests

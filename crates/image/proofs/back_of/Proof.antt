@@ -1,7 +1,7 @@
 use mathlib.Core.Path.{ap, _∙_}
 use native.Mathlib.Omega.{arith}
 use Rattle.model.specs.Spare.{back}
-use Rattle.model.specs.Image.{backOf}
+use Rattle.model.specs.Image.{headTag, backOf}
 use Rattle.image.specs.Chip.{spareOnly}
 use Rattle.image.proofs.First.{first-inside, first-tag}
 use Rattle.image.proofs.back_of.Statement.{statement}
@@ -14,7 +14,7 @@ back-at-requires : tie.Need-back-at-requires
 back-at-requires c κs = let p = c .before .before .pre in first-inside (p .0) (p .1)
 
 returns : tie.Need-returns
-unfolding backOf
+unfolding backOf headTag
 returns c = let a = c .before .before .before .args in c .back-at .ensures ∙ ap back (first-tag (a .z) (spareOnly (a .spare .now)) (a .c))
 
 pub back-of-spec : {M : Type 1} → statement M

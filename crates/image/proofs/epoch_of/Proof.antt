@@ -1,7 +1,7 @@
 use Rattle.image.proofs.First.{first-inside, first-tag, epoch-used}
 use Rattle.image.specs.Chip.{spareOnly}
 use Rattle.model.specs.Stores.{tagOf}
-use Rattle.model.specs.Image.{epochOf, used}
+use Rattle.model.specs.Image.{headTag, epochOf, used}
 use Rattle.model.specs.Spare.{epoch}
 use native.Mathlib.Omega.{arith}
 use mathlib.Core.Path.{_≡_, sym, ap, _∙_}
@@ -17,7 +17,7 @@ epoch-at-requires : tie.Need-epoch-at-requires
 epoch-at-requires c κs = let p = c .before .before .pre in first-inside (p .0) (p .1)
 
 returns : tie.Need-returns
-unfolding epochOf used
+unfolding epochOf used headTag
 returns c = let a = c .before .before .before .before .args in let d = spareOnly (a .spare .now) in
     let e = c .before .epoch-at .ensures ∙ ap epoch (first-tag (a .z) d (a .c)) in
     rw (epoch-used (tagOf (a .z) d (a .c) 0) (λ q. c .if1 .taken (e ∙ q))) e
@@ -26,13 +26,13 @@ used-requires : tie.Need-used-requires
 used-requires c κs = search needs
 
 returns-2 : tie.Need-returns-2
-unfolding epochOf
+unfolding epochOf headTag
 returns-2 c = let a = c .before .before .before .before .before .before .args in let d = spareOnly (a .spare .now) in
     let u : used (a .z) d (a .c) ≡ true = sym (c .before .used .ensures) ∙ c .if2 .taken in
     rw u (c .before .before .before .epoch-at .ensures ∙ ap epoch (first-tag (a .z) d (a .c)))
 
 returns-3 : tie.Need-returns-3
-unfolding epochOf
+unfolding epochOf headTag
 returns-3 c = let a = c .before .before .before .before .before .before .args in let d = spareOnly (a .spare .now) in
     let u : used (a .z) d (a .c) ≡ false = sym (c .before .used .ensures) ∙ c .if2 .left in
     rw u

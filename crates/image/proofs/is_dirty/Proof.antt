@@ -1,5 +1,5 @@
 use Rattle.image.proofs.First.{first-inside, first-tag}
-use Rattle.model.specs.Image.{isDirty}
+use Rattle.model.specs.Image.{headTag, isDirty}
 use Rattle.image.specs.Chip.{spareOnly}
 use Rattle.model.specs.Spare.{kind}
 use lib.Dec.{eqb}
@@ -15,7 +15,7 @@ kind-at-requires : tie.Need-kind-at-requires
 kind-at-requires c κs = let p = c .before .before .pre in first-inside (p .0) (p .1)
 
 returns : tie.Need-returns
-unfolding isDirty
+unfolding isDirty headTag
 returns c = let a = c .before .before .before .args in
     rw (c .kind-at .ensures) (ap (λ t. eqb (kind t) 3) (first-tag (a .z) (spareOnly (a .spare .now)) (a .c)))
 

@@ -1,6 +1,6 @@
 use Rattle.image.proofs.First.{first-inside, first-tag, write-kind}
 use Rattle.model.specs.Stores.{tagOf}
-use Rattle.model.specs.Image.{isWrite, used}
+use Rattle.model.specs.Image.{headTag, isWrite, used}
 use Rattle.image.specs.Chip.{spareOnly}
 use Rattle.model.specs.Spare.{kind}
 use lib.Dec.{eqb}
@@ -16,7 +16,7 @@ kind-at-requires : tie.Need-kind-at-requires
 kind-at-requires c κs = let p = c .before .before .pre in first-inside (p .0) (p .1)
 
 returns : tie.Need-returns
-unfolding isWrite used
+unfolding isWrite used headTag
 returns c = let a = c .before .before .before .args in let d = spareOnly (a .spare .now) in
     rw (c .kind-at .ensures) (ap (λ t. eqb (kind t) 2) (first-tag (a .z) d (a .c)) ∙ write-kind (tagOf (a .z) d (a .c) 0))
 

@@ -2,7 +2,7 @@ use Rattle.image.proofs.First.{first-inside, first-tag, kind-used}
 use Rattle.image.specs.Chip.{spareOnly}
 use Rattle.spare.proofs.Looked.{seen-blank, seen-programmed}
 use Rattle.model.specs.Stores.{tagOf}
-use Rattle.model.specs.Image.{used}
+use Rattle.model.specs.Image.{headTag, used}
 use Rattle.model.specs.Spare.{kind}
 use native.Mathlib.Omega.{arith}
 use mathlib.Core.Path.{sym, ap, _∙_}
@@ -17,7 +17,7 @@ kind-at-requires : tie.Need-kind-at-requires
 kind-at-requires c κs = let p = c .before .before .pre in first-inside (p .0) (p .1)
 
 returns : tie.Need-returns
-unfolding used
+unfolding used headTag
 returns c = let a = c .before .before .before .before .args in let d = spareOnly (a .spare .now) in
     rw (kind-used (tagOf (a .z) d (a .c) 0) (λ e. c .if1 .taken (c .before .kind-at .ensures ∙ (ap kind (first-tag (a .z) d (a .c)) ∙ e))))
 
@@ -31,11 +31,11 @@ enum-told-2 : tie.Need-enum-told-2
 enum-told-2 c = search needs
 
 returns-2 : tie.Need-returns-2
-unfolding used
+unfolding used headTag
 returns-2 c = rw (seen-blank _ (sym (c .before .before .look .ensures) ∙ c .enum-told .given .1))
 
 returns-3 : tie.Need-returns-3
-unfolding used
+unfolding used headTag
 returns-3 c = rw (seen-programmed _ _ (sym (c .before .before .look .ensures) ∙ c .enum-told2 .given .1) .0)
 
 pub used-spec : {M : Type 1} → statement M

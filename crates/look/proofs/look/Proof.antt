@@ -1,6 +1,5 @@
 use Prim.Native.Nat.{_+_, _*_}
 use Rattle.look.proofs.Passed.{looked, answer-number}
-use Rattle.look.specs.Look.{sized}
 use Rattle.model.specs.Calls.{lookBytes}
 use Rattle.lists.proofs.Lent.{lent-part}
 use Rattle.model.specs.Sizes.{pageIndex}
@@ -43,13 +42,13 @@ unfolding lookBytes pageIndex
 returns c =
     let a = c .before .before .before .before .before .before .before .args in
     let at = (a .bucket * a .z .p + a .page) * a .z .s in
-    (c .before .before .before .before .before .refusal .ensures ∙ sym (answer-number (sized (a .z)) (a .flash .now) (a .bucket) (a .page)), rw (lent-part (a .flash .now) at (a .z .s), ← c .before .before .before .before .before .refusal .ensures, eq-eqb _ _ (c .before .before .before .before .if1 .taken)))
+    (c .before .before .before .before .before .refusal .ensures ∙ sym (answer-number (a .z) (a .flash .now) (a .bucket) (a .page)), rw (lent-part (a .flash .now) at (a .z .s), ← c .before .before .before .before .before .refusal .ensures, eq-eqb _ _ (c .before .before .before .before .if1 .taken)))
 
 returns-2 : tie.Need-returns-2
 unfolding lookBytes
 returns-2 c =
     let a = c .before .before .before .before .args in
-    (c .before .before .refusal .ensures ∙ sym (answer-number (sized (a .z)) (a .flash .now) (a .bucket) (a .page)), rw (← c .before .before .refusal .ensures, ne-eqb _ _ (c .before .if1 .left)))
+    (c .before .before .refusal .ensures ∙ sym (answer-number (a .z) (a .flash .now) (a .bucket) (a .page)), rw (← c .before .before .refusal .ensures, ne-eqb _ _ (c .before .if1 .left)))
 
 pub look-spec : {M : Type 1} → statement M
 look-spec =

@@ -1,5 +1,7 @@
-use Rattle.geometry.proofs.Passed.{products, limits-hold}
-use Rattle.model.specs.Calls.{firstFailed, lookTests}
+use Rattle.model.proofs.Limits.{limits-of}
+use Rattle.geometry.proofs.Passed.{products}
+use Rattle.model.specs.Tests.{firstFailed}
+use Rattle.model.specs.Calls.{lookTests}
 use Rattle.model.specs.Sizes.{flashSize, bucketSize}
 use borrow.Author.Tests.{eq-eqb, ne-eqb}
 use native.Mathlib.Omega.{arith}
@@ -12,10 +14,10 @@ limits-requires : tie.Need-limits-requires
 limits-requires c κs = search needs
 
 mul-if2 : tie.Need-mul-if2
-mul-if2 c = omega (arith, products (limits-hold _ (sym (c .before .before .limits .ensures) ∙ c .before .if1 .taken)))
+mul-if2 c = omega (arith, products (limits-of _ (sym (c .before .before .limits .ensures) ∙ c .before .if1 .taken)))
 
 mul-if2-2 : tie.Need-mul-if2-2
-mul-if2-2 c = omega (arith, products (limits-hold _ (sym (c .before .before .before .limits .ensures) ∙ c .before .before .if1 .taken)))
+mul-if2-2 c = omega (arith, products (limits-of _ (sym (c .before .before .before .limits .ensures) ∙ c .before .before .if1 .taken)))
 
 returns : tie.Need-returns
 unfolding firstFailed lookTests flashSize bucketSize

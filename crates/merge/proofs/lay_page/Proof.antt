@@ -1,3 +1,4 @@
+use Rattle.model.proofs.Limits.{on-chip}
 use mathlib.Core.Path.{sym, _∙_}
 use native.Mathlib.Omega.{arith}
 use borrow.Author.Needs.{needs}
@@ -6,7 +7,7 @@ use Rattle.merge.proofs.lay_page.Statement.{statement}
 use Rattle.merge.proofs.lay_page.Tie as tie
 
 look-requires : tie.Need-look-requires
-look-requires c κs = let p = c .before .before .before .pre in (record { limits = p .0 .limits; spare-length = p .0 .spare-length }, (p .1 .0, p .1 .1 .0))
+look-requires c κs = let p = c .before .before .before .pre in (record { limits = p .0 .limits; spare-length = p .0 .spare-length }, (on-chip _ _ (p .1 .0), p .1 .1 .0))
 
 enum-known-page : tie.Need-enum-known-page
 enum-known-page c = search needs
@@ -38,7 +39,7 @@ lay-log-requires : tie.Need-lay-log-requires
 lay-log-requires c κs =
     let p = c .before .before .before .before .before .before .before .before .before .before .before .pre in
     let says = sym (c .before .before .before .before .before .before .before .look .ensures) ∙ c .before .before .before .before .before .page .given .1 in
-    (p .0 .limits, (p .0 .flash-length, (p .1 .0, (log-place (p .0) (p .1 .0) (p .1 .1 .0) says (c .before .if1 .left), p .1 .1 .1))))
+    (p .0 .limits, (p .0 .flash-length, (on-chip _ _ (p .1 .0), (log-place (p .0) (p .1 .0) (p .1 .1 .0) says (c .before .if1 .left), p .1 .1 .1))))
 
 same-length : tie.Need-same-length
 same-length c = search needs

@@ -1,3 +1,4 @@
+use Rattle.model.proofs.Limits.{on-chip}
 use mathlib.Core.Path.{_≡_, sym, _∙_}
 use mathlib.Core.Bool.{true, false}
 use Prim.Native.Nat.{_≤_, _<_}
@@ -24,7 +25,7 @@ returns : tie.Need-returns
 returns c = let start = c .before .before .before .before .before .before .before in
     let a = start .args in
     let room : length (entriesOf (a .s .reads)) < a .s .sizes .r = omega (arith, c .if1 .taken, c .before .before .used .ensures .0) in
-    (drop-none (a .s .sizes) (device (a .flash .now) (a .spare .now) (a .disk .now)) (viewOf (a .s)) (running (a .flash .now) (a .spare .now) (a .disk .now) (a .meter)) (lt-ltb (length (entriesOf (a .s .reads))) (a .s .sizes .r) room), start .pre .0)
+    (drop-none (a .s .sizes) (viewOf (a .s)) (running (a .flash .now) (a .spare .now) (a .disk .now) (a .meter)) (lt-ltb (length (entriesOf (a .s .reads))) (a .s .sizes .r) room), start .pre .0)
 
 first-requires : tie.Need-first-requires
 first-requires c κs = search needs
@@ -42,7 +43,7 @@ is-dirty-requires : tie.Need-is-dirty-requires
 is-dirty-requires c κs = let start = c .before .before .before .before .before .before .before .before .before .before .before in
     let v = viewOf (start .args .s) in
     let full : v .sizes .r ≤ length (v .reads) = omega (arith, c .before .before .before .before .if1 .left, c .before .before .before .before .before .before .used .ensures .0) in
-    (record { limits = start .pre .1 .orderly .limits; spare-length = start .pre .0 .spare-length }, rw (c .before .before .before .first .ensures) (oldest-below v (start .pre .1) full))
+    (record { limits = start .pre .1 .orderly .limits; spare-length = start .pre .0 .spare-length }, rw (c .before .before .before .first .ensures) (on-chip (v .sizes) _ (oldest-below v (start .pre .1) full)))
 
 cast-write-out : tie.Need-cast-write-out
 cast-write-out c = search needs
@@ -55,7 +56,7 @@ write-out-requires c κs = let start = c .before .before .before .before .before
       record {
         limits = start .pre .1 .orderly .limits;
         back = rw (c .before .before .before .before .before .before .before .before .before .first .ensures) (start .pre .1 .back (some-read v (start .pre .1) full));
-        cache = rw (c .before .before .before .before .before .before .before .before .before .first .ensures) (oldest-below v (start .pre .1) full);
+        cache = rw (c .before .before .before .before .before .before .before .before .before .first .ensures) (on-chip (v .sizes) _ (oldest-below v (start .pre .1) full));
       },
     )
 
@@ -75,7 +76,7 @@ returns-2 c = let start = c .before .before .before .before .before .before .bef
     let d = device (a .flash .now) (a .spare .now) (a .disk .now) in
     let full : ltb (length (v .reads)) (v .sizes .r) ≡ false = le-ltb (length (v .reads)) (v .sizes .r) (omega (arith, c .before .before .before .before .before .before .before .before .before .before .before .before .before .before .before .before .before .if1 .left, c .before .before .before .before .before .before .before .before .before .before .before .before .before .before .before .before .before .before .before .used .ensures .0)) in
     let dirty : isDirty (v .sizes) d (getD (v .reads) 0 noEntry .cache) ≡ true = rw (← c .before .before .before .before .before .before .before .before .before .before .before .before .before .before .before .before .first .ensures) (sym (same-dirty (v .sizes) d (c .before .before .before .before .before .before .before .before .before .before .before .before .before .before .before .before .first .result .cache)) ∙ sym (c .before .before .before .before .before .before .before .before .before .before .before .before .is-dirty .ensures) ∙ c .before .before .before .before .before .before .before .before .before .before .before .if2 .taken) in
-    (rw (c .before .before .before .before .before .before .write-out .ensures .0, c .before .before .before .before .before .before .before .before .before .before .before .before .before .before .before .drop-oldest .ensures, c .before .before .before .before .before .before .before .before .before .before .before .before .before .before .before .before .first .ensures) (drop-dirty (v .sizes) d v (running (a .flash .now) (a .spare .now) (a .disk .now) (a .meter)) full dirty), c .before .before .before .before .before .before .write-out .ensures .1)
+    (rw (c .before .before .before .before .before .before .write-out .ensures .0, c .before .before .before .before .before .before .before .before .before .before .before .before .before .before .before .drop-oldest .ensures, c .before .before .before .before .before .before .before .before .before .before .before .before .before .before .before .before .first .ensures) (drop-dirty (v .sizes) v (running (a .flash .now) (a .spare .now) (a .disk .now) (a .meter)) full dirty), c .before .before .before .before .before .before .write-out .ensures .1)
 
 same-length-4 : tie.Need-same-length-4
 same-length-4 c = search needs
@@ -87,7 +88,7 @@ returns-3 c = let start = c .before .before .before .before .before .before .bef
     let d = device (a .flash .now) (a .spare .now) (a .disk .now) in
     let full : ltb (length (v .reads)) (v .sizes .r) ≡ false = le-ltb (length (v .reads)) (v .sizes .r) (omega (arith, c .before .before .before .before .before .before .if1 .left, c .before .before .before .before .before .before .before .before .used .ensures .0)) in
     let clean : isDirty (v .sizes) d (getD (v .reads) 0 noEntry .cache) ≡ false = rw (← c .before .before .before .before .before .first .ensures) (sym (same-dirty (v .sizes) d (c .before .before .before .before .before .first .result .cache)) ∙ sym (c .before .is-dirty .ensures) ∙ c .if2 .left) in
-    (rw (c .before .before .before .before .drop-oldest .ensures) (drop-clean (v .sizes) d v (running (a .flash .now) (a .spare .now) (a .disk .now) (a .meter)) full clean), start .pre .0)
+    (rw (c .before .before .before .before .drop-oldest .ensures) (drop-clean (v .sizes) v (running (a .flash .now) (a .spare .now) (a .disk .now) (a .meter)) full clean), start .pre .0)
 
 pub drop-oldest-spec : {M : Type 1} → statement M
 drop-oldest-spec =

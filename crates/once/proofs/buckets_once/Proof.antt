@@ -12,6 +12,9 @@ use Rattle.state.specs.View.{viewOf}
 use Rattle.once.proofs.buckets_once.Statement.{statement}
 use Rattle.once.proofs.buckets_once.Tie as tie
 
+body-requires : tie.Need-body-requires
+body-requires c κs = search needs
+
 used-requires : tie.Need-used-requires
 used-requires c κs = search needs
 
@@ -35,11 +38,12 @@ add-total-3 c = search needs
 
 returns : tie.Need-returns
 unfolding eachOnce every
-returns c = let s = c .before .before .before .before .before .args .s in
-    rw (ne-eqb (length (queued (viewOf s))) (s .sizes .c) (λ h. c .if1 .taken (omega (arith, queued-length (viewOf s)))))
+returns c = let s = c .before .before .before .before .before .before .args .s in
+    let end = c .before .before .before .before .before .body in
+    rw (← end .ensures, ne-eqb (length (queued (viewOf s))) (end .result) (λ h. c .if1 .taken (omega (arith, queued-length (viewOf s)))))
 
 queued-requires : tie.Need-queued-requires
-queued-requires c κs = omega (arith, queued-length (viewOf (c .before .before .before .before .before .args .s)))
+queued-requires c κs = omega (arith, queued-length (viewOf (c .before .before .before .before .before .before .args .s)))
 
 used-requires-5 : tie.Need-used-requires-5
 used-requires-5 c κs = search needs
@@ -48,32 +52,35 @@ all-below-requires : tie.Need-all-below-requires
 all-below-requires c κs = search needs
 
 all-once-requires : tie.Need-all-once-requires
-all-once-requires c κs = ((omega arith, c .before .before .before .before .before .before .before .before .before .before .pre), sym (c .before .all-below .ensures) ∙ c .if2 .taken)
+all-once-requires c κs = ((omega arith, omega arith), sym (c .before .all-below .ensures) ∙ c .if2 .taken)
 
 returns-2 : tie.Need-returns-2
 unfolding eachOnce every
-returns-2 c = let s = c .before .before .before .before .before .before .before .before .before .before .before .args .s in
+returns-2 c = let s = c .before .before .before .before .before .before .before .before .before .before .before .before .args .s in
+    let end = c .before .before .before .before .before .before .before .before .before .before .before .body in
     let list = c .before .before .before .before .before .queued .result in
     let u = c .before .before .before .before .used5 in
-    let e : length (queued (viewOf s)) ≡ s .sizes .c = omega (arith, queued-length (viewOf s)) in
+    let e : length (queued (viewOf s)) ≡ end .result = omega (arith, queued-length (viewOf s)) in
     let l : take (u .result) (list .items) ≡ queued (viewOf s) = take-used (u .result) (list .len) (list .items) (u .ensures .0) ∙ c .before .before .before .before .before .queued .ensures in
-    let b : all (isBelow (s .sizes .c)) (queued (viewOf s)) ≡ true = ap (all (isBelow (s .sizes .c))) (sym l) ∙ (sym (c .before .before .all-below .ensures) ∙ c .before .if2 .taken) in
-    rw (c .all-once .ensures, l, eq-eqb (length (queued (viewOf s))) (s .sizes .c) e, b) (simp and-true)
+    let b : all (isBelow (end .result)) (queued (viewOf s)) ≡ true = ap (all (isBelow (end .result))) (sym l) ∙ (sym (c .before .before .all-below .ensures) ∙ c .before .if2 .taken) in
+    rw (← end .ensures, c .all-once .ensures, l, eq-eqb (length (queued (viewOf s))) (end .result) e, b) (simp and-true)
 
 returns-3 : tie.Need-returns-3
 unfolding eachOnce every
-returns-3 c = let s = c .before .before .before .before .before .before .before .before .before .before .args .s in
+returns-3 c = let s = c .before .before .before .before .before .before .before .before .before .before .before .args .s in
+    let end = c .before .before .before .before .before .before .before .before .before .before .body in
     let list = c .before .before .before .before .queued .result in
     let u = c .before .before .before .used5 in
-    let e : length (queued (viewOf s)) ≡ s .sizes .c = omega (arith, queued-length (viewOf s)) in
+    let e : length (queued (viewOf s)) ≡ end .result = omega (arith, queued-length (viewOf s)) in
     let l : take (u .result) (list .items) ≡ queued (viewOf s) = take-used (u .result) (list .len) (list .items) (u .ensures .0) ∙ c .before .before .before .before .queued .ensures in
-    let b : all (isBelow (s .sizes .c)) (queued (viewOf s)) ≡ false = ap (all (isBelow (s .sizes .c))) (sym l) ∙ (sym (c .before .all-below .ensures) ∙ c .if2 .left) in
-    rw (eq-eqb (length (queued (viewOf s))) (s .sizes .c) e, b)
+    let b : all (isBelow (end .result)) (queued (viewOf s)) ≡ false = ap (all (isBelow (end .result))) (sym l) ∙ (sym (c .before .all-below .ensures) ∙ c .if2 .left) in
+    rw (← end .ensures, eq-eqb (length (queued (viewOf s))) (end .result) e, b)
 
 pub buckets-once-spec : {M : Type 1} → statement M
 buckets-once-spec =
     tie.close
     (tie.spec
+    body-requires
     used-requires
     used-requires-2
     add-total

@@ -23,7 +23,7 @@ unfolding nothing after runAll
 returns c = let a = c .before .before .before .before .before .before .before .before .before .args in
     let d = device (a .flash .now) (a .spare .now) (a .disk .now) in
     rw (c .finish .ensures)
-    (handed-read (a .allowance) (a .s) d (nothing (viewOf (a .new))) {q = record { run = fresh d (a .allowance); state = viewOf (a .new) }} refl (a .b) (a .offset) (a .buffer .now) (c .before .before .before .merged-range .ensures))
+    (handed-read (a .allowance) (a .s) d (λ t. nothing (viewOf (a .new))) {q = record { run = fresh d (a .allowance); state = viewOf (a .new) }} refl (a .b) (a .offset) (a .buffer .now) (c .before .before .before .merged-range .ensures))
 
 pub answer-spec : {M : Type 1} → statement M
 answer-spec = tie.close (tie.spec merged-range-requires finish-requires same-length returns)

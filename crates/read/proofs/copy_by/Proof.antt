@@ -1,10 +1,12 @@
+use Rattle.model.specs.Calls.{readCall, sizesOf}
+use Rattle.outcome.proofs.Ends.{step-left}
 use native.Mathlib.Omega.{arith}
 use Rattle.model.specs.Steps.{merged}
 use Rattle.geometry.specs.Geometry.{device}
 use Rattle.state.specs.View.{viewOf}
 use Rattle.read.specs.Reads.{copyOf}
 use Rattle.read.proofs.Copies.{sources}
-use Rattle.read.proofs.Plans.{read-left, handed-read}
+use Rattle.read.proofs.Plans.{handed-read}
 use borrow.Author.Needs.{needs}
 use Rattle.read.proofs.copy_by.Statement.{statement}
 use Rattle.read.proofs.copy_by.Tie as tie
@@ -22,9 +24,10 @@ show-requires c κs = let p = c .before .before .before .before .before .before 
     omega (arith, p .1 .0 .range, c .before .before .before .before .before .before .before .before .before .before .before .before .before .before .before .before .bytes .given, p .1 .1 .1)
 
 finish-requires : tie.Need-finish-requires
+unfolding sizesOf
 finish-requires c κs = let a = c .before .before .before .before .before .before .before .before .before .before .before .before .before .before .before .before .before .before .before .before .before .before .before .before .before .before .before .before .before .before .args in
     let d = device (a .flash .now) (a .spare .now) (a .disk .now) in
-    read-left (a .allowance) (a .s) d _ (c .before .before .before .before .before .before .before .before .before .before .before .before .before .make-copy .ensures .0)
+    step-left (a .allowance) (readCall (a .b) (a .offset) (a .buffer .now)) (a .s) d _ (c .before .before .before .before .before .before .before .before .before .before .before .before .before .make-copy .ensures .0)
 
 same-length : tie.Need-same-length
 same-length c = search needs
@@ -48,7 +51,7 @@ returns c = let a = c .before .before .before .before .before .before .before .b
     let d = device (a .flash .now) (a .spare .now) (a .disk .now) in
     let bytes = c .before .before .before .before .before .before .before .before .before .before .before .before .before .before .before .before .before .before .before .before .before .merged-into .ensures in
     rw (c .finish .ensures)
-    (handed-read (a .allowance) (a .s) d (copyOf z d (a .b) (merged z v d (a .b)) v) (rw bytes at (c .before .before .before .before .before .before .before .before .before .before .before .before .before .before .make-copy .ensures .0)) (a .b) (a .offset) (a .buffer .now) (rw bytes at (c .before .before .before .show .ensures)))
+    (handed-read (a .allowance) (a .s) d (copyOf z (a .b) (merged z v d (a .b))) (rw bytes at (c .before .before .before .before .before .before .before .before .before .before .before .before .before .before .make-copy .ensures .0)) (a .b) (a .offset) (a .buffer .now) (rw bytes at (c .before .before .before .show .ensures)))
 
 pub copy-by-spec : {M : Type 1} → statement M
 copy-by-spec =

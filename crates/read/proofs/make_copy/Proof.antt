@@ -1,3 +1,4 @@
+use Rattle.steps.specs.Turns.{after}
 use mathlib.Core.Path.{sym, _∙_}
 use Rattle.geometry.specs.Geometry.{device}
 use Rattle.state.specs.View.{viewOf}
@@ -24,7 +25,7 @@ same-length-3 : tie.Need-same-length-3
 same-length-3 c = search needs
 
 returns : tie.Need-returns
-unfolding copyOf
+unfolding copyOf after
 returns c = (rw (sym (c .before .before .before .before .before .before .before .before .before .before .before .holds .ensures) ∙ c .before .before .before .before .before .before .before .before .before .before .if1 .taken) (c .before .before .before .before .before .before .copy .ensures .0), c .before .before .before .before .before .before .copy .ensures .1)
 
 drop-oldest-requires : tie.Need-drop-oldest-requires
@@ -38,9 +39,8 @@ copy-requires-2 c κs = let start = c .before .before .before .before .before .b
     let a = start .args in
     let p = start .pre in
     let v = viewOf (a .s) in
-    let d = device (a .flash .now) (a .spare .now) (a .disk .now) in
     let room = c .before .before .before .before .before .before .before .before .before .before .before .before .drop-oldest .ensures in
-    (rw (left-dropped v d (p .1 .0) _ (room .0) .sizes) (room .1), miss-copies v d (p .1 .0) _ (room .0) (p .1 .1) (p .1 .2))
+    (rw (left-dropped v (p .1 .0) _ (room .0) .sizes) (room .1), miss-copies v (p .1 .0) _ (room .0) (p .1 .1) (p .1 .2))
 
 same-length-4 : tie.Need-same-length-4
 same-length-4 c = search needs
@@ -56,11 +56,10 @@ returns-2 c = let start = c .before .before .before .before .before .before .bef
     let a = start .args in
     let drops = start .pre .1 .0 in
     let v = viewOf (a .s) in
-    let d = device (a .flash .now) (a .spare .now) (a .disk .now) in
     let room = c .before .before .before .before .before .before .before .before .before .before .before .before .before .before .before .before .before .before .before .drop-oldest .ensures .0 in
     let copied = c .before .before .before .before .before .before .copy2 .ensures in (
-      copied .0 ∙ missed v d drops _ room (c .before .before .before .before .before .before .before .before .before .before .before .before .copy-kind .result) (a .b) (a .bytes .now) (sym (c .before .before .before .before .before .before .before .before .before .before .before .before .before .before .before .before .before .before .before .before .before .before .before .before .holds .ensures) ∙ c .before .before .before .before .before .before .before .before .before .before .before .before .before .before .before .before .before .before .before .before .before .before .before .if1 .left) (c .before .before .before .before .before .before .before .before .before .before .before .before .copy-kind .ensures),
-      rw (left-dropped v d drops _ room .sizes) at (copied .1),
+      copied .0 ∙ missed v drops _ room (c .before .before .before .before .before .before .before .before .before .before .before .before .copy-kind .result) (a .b) (a .bytes .now) (sym (c .before .before .before .before .before .before .before .before .before .before .before .before .before .before .before .before .before .before .before .before .before .before .before .before .holds .ensures) ∙ c .before .before .before .before .before .before .before .before .before .before .before .before .before .before .before .before .before .before .before .before .before .before .before .if1 .left) (c .before .before .before .before .before .before .before .before .before .before .before .before .copy-kind .ensures),
+      rw (left-dropped v drops _ room .sizes) at (copied .1),
     )
 
 pub make-copy-spec : {M : Type 1} → statement M

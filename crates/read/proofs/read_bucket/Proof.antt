@@ -58,7 +58,7 @@ returns-2 c = let a = c .before .before .before .before .before .before .before 
     let z = a .s .sizes in
     let d = device (a .flash .now) (a .spare .now) (a .disk .now) in
     let low = le-ltb lastEpoch (a .s .next) (omega (arith, c .before .before .before .before .before .before .before .before .before .before .if1 .left)) in
-    rw (read-touches z d (a .b) (viewOf (a .s)) low (sym (c .before .before .before .before .before .before .before .before .before .hits-read-alone .ensures) ∙ c .before .before .before .before .before .before .before .before .if2 .taken), ← c .before .before .before .before .before .before .before .touch .ensures z d) (c .before .before .answer2 .ensures)
+    rw (read-touches z d (a .b) (viewOf (a .s)) low (sym (c .before .before .before .before .before .before .before .before .before .hits-read-alone .ensures) ∙ c .before .before .before .before .before .before .before .before .if2 .taken), ← c .before .before .before .before .before .before .before .touch .ensures) (c .before .before .answer2 .ensures)
 
 copy-read-requires : tie.Need-copy-read-requires
 copy-read-requires c κs = search needs

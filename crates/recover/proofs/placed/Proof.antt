@@ -1,4 +1,5 @@
 use Rattle.recover.proofs.Queues.{push-mapped}
+use Rattle.model.proofs.Limits.{on-chip}
 use Rattle.recover.specs.Places.{place}
 use Rattle.classes.proofs.Choices.{listed}
 use Rattle.image.specs.Chip.{spareOnly}
@@ -38,7 +39,7 @@ place-requires c κs =
     let start = c .before .before .before .before .before .before in
     let u = c .before .before .before .before .used in
     let l = c .before .loop in
-    (start .pre .0, listed (start .args .z) (start .args .list) (u .result) (l .i) (start .pre .1 .0) (u .ensures .0) (omega (arith, l .inv .2)) (c .loop-test .taken))
+    (start .pre .0, on-chip (start .args .z) _ (listed (start .args .z) (start .args .list) (u .result) (l .i) (start .pre .1 .0) (u .ensures .0) (omega (arith, l .inv .2)) (c .loop-test .taken)))
 
 push-requires : tie.Need-push-requires Inv-loop μ-loop
 push-requires c κs = search needs

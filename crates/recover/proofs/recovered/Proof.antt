@@ -46,7 +46,7 @@ top-epoch-requires c κs = search needs
 add-t13 : tie.Need-add-t13
 add-t13 c =
     let start = c .before .before .before .before .before .before .before .before in
-    omega (arith, c .top-epoch .ensures, top-fits (start .args .z) (start .args .spare .now) (λ i. omega (arith, c .before .before .before .before .before .before .before .shared-slice-known .given i)))
+    omega (arith, c .top-epoch .ensures, top-fits (start .args .z) (start .pre .0 .limits .p-low) (start .args .spare .now) (λ i. omega (arith, c .before .before .before .before .before .before .before .shared-slice-known .given i)))
 
 returns : tie.Need-returns
 unfolding recover

@@ -1,4 +1,5 @@
 use Rattle.classes.proofs.Choices.{listed}
+use Rattle.model.proofs.Limits.{on-chip}
 use Rattle.image.specs.Chip.{spareOnly}
 use Rattle.model.specs.Image.{backOf}
 use Rattle.lists.proofs.Arrays.{take-used, mapped-more}
@@ -31,7 +32,7 @@ cast-c c = search needs
 
 back-of-requires : tie.Need-back-of-requires Inv-loop μ-loop
 back-of-requires c κs = let start = c .before .before .before .before .before in let u = c .before .before .before .used in let l = c .before .loop in
-    (start .pre .0, listed (start .args .z) (start .args .list) (u .result) (l .i) (start .pre .1) (u .ensures .0) (omega (arith, l .inv .3)) (c .loop-test .taken))
+    (start .pre .0, on-chip (start .args .z) _ (listed (start .args .z) (start .args .list) (u .result) (l .i) (start .pre .1) (u .ensures .0) (omega (arith, l .inv .3)) (c .loop-test .taken)))
 
 mul-numbers : tie.Need-mul-numbers Inv-loop μ-loop
 mul-numbers c = search needs

@@ -1,4 +1,6 @@
 use Rattle.rescued.proofs.Bytes.{chip-of, readable, head-within, copy-within, sorted-within, merge-all-as, same-chosen, same-flushed, same-logs, flushed-count, base-as, rescued-flushed, rescued-copy}
+use Rattle.model.proofs.Limits.{on-chip}
+use Rattle.model.specs.Sizes.{body}
 use Rattle.classes.proofs.Choices.{within-as, buckets-within, copies-of}
 use Rattle.model.specs.Recover.{buckets, isWriteOf, isChosen, isDroppedWrite, flushed}
 use Rattle.image.specs.Chip.{spareOnly}
@@ -33,9 +35,9 @@ cast-base-into c = search needs
 base-into-requires : tie.Need-base-into-requires
 base-into-requires c κs = let start = c .before .before .before .before .before .before .before .before .before in let x = start .args in let d = spareOnly (x .spare .now) in
     let sound = start .pre .0 in
-    let low : 1 ≤ x .z .c = omega (arith, sound .limits .c-low) in
+    let low : 1 ≤ body (x .z) = omega (arith, sound .limits .room) in
     let copy = copies-of (x .z) d (x .b) (start .pre .1 .0 .1 .chosen-are) (c .before .before .before .before .selected .ensures) in
-    (sound .limits, ((sound .lent .flash-length, sound .lent .disk-length, start .pre .1 .1 .1), (start .pre .1 .1 .0, rw (c .before .head .ensures) (head-within (x .z) _ low (within-as (x .z) copy (copy-within (x .z) d (x .b)))))))
+    (sound .limits, ((sound .lent .flash-length, sound .lent .disk-length, start .pre .1 .1 .1), (start .pre .1 .1 .0, rw (c .before .head .ensures) (on-chip (x .z) _ (head-within (x .z) _ low (within-as (x .z) copy (copy-within (x .z) d (x .b))))))))
 
 logs-of-requires : tie.Need-logs-of-requires
 logs-of-requires c κs = search needs

@@ -8,6 +8,7 @@ use lib.Seq.{length-take-le, take-suc-set}
 use lib.ListN.{length-set, length, take}
 use borrow.Author.Needs.{needs}
 use Rattle.image.specs.Chip.{spareOnly}
+use Rattle.model.specs.Sizes.{body}
 use Rattle.model.specs.Image.{used, epochOf}
 use Rattle.lists.proofs.Turns.{keep-more, keep-same}
 use Rattle.lists.specs.Lists.{keep, row, below}
@@ -15,10 +16,13 @@ use Rattle.rules.proofs.epochs_differ.Statement.{statement}
 use Rattle.rules.proofs.epochs_differ.Tie as tie
 
 abbrev Inv-loop : tie.InvT-loop
-Inv-loop z spare epochs₀ n₀ c₀ epochs n c = (c ≤ z .c) × (n ≤ c) × (length epochs ≡ 256) × (take n epochs ≡ map (epochOf z (spareOnly spare)) (keep (used z (spareOnly spare)) (below c)))
+Inv-loop z spare epochs₀ n₀ end c₀ epochs n c = (c ≤ end) × (n ≤ c) × (length epochs ≡ 256) × (take n epochs ≡ map (epochOf z (spareOnly spare)) (keep (used z (spareOnly spare)) (below c)))
 
 abbrev μ-loop : tie.MeasureT-loop
-μ-loop z spare epochs₀ n₀ c₀ epochs n c = z .c - c
+μ-loop z spare epochs₀ n₀ end c₀ epochs n c = end - c
+
+body-requires : tie.Need-body-requires Inv-loop μ-loop
+body-requires c κs = search needs
 
 loop-holds : tie.Need-loop-holds Inv-loop μ-loop
 unfolding keep below row
@@ -47,7 +51,7 @@ loop-less c = omega arith
 
 loop-again : tie.Need-loop-again Inv-loop μ-loop
 loop-again c =
-    let l = c .before .before .before .before .loop in
+    let l = c .before .before .before .loop in
     let a = c .before .before .before .before .before .before .args in
     let e = sym (c .before .used .ensures) in
     let epoch = epochOf (a .z) (spareOnly (a .spare .now)) in
@@ -66,21 +70,21 @@ loop-again c =
       ap length (w .1) ∙ l .inv .2,
       rw (w .2, w .1, l .inv .3) (sym (keep-same (l .c) isUsed epoch (e ∙ w .0 .left))),
     ))
-    (c .if2 .came)
+    (c .if1 .came)
 
 array-share-prefix-epochs : tie.Need-array-share-prefix-epochs Inv-loop μ-loop
 array-share-prefix-epochs c = search needs
 
 slice-aggregate-all-differ : tie.Need-slice-aggregate-all-differ Inv-loop μ-loop
-slice-aggregate-all-differ c = sym (length-take-le (c .before .before .before .loop .n) (c .before .before .before .loop .epochs) (omega arith))
+slice-aggregate-all-differ c = sym (length-take-le (c .before .before .loop .n) (c .before .before .loop .epochs) (omega arith))
 
 all-differ-requires : tie.Need-all-differ-requires Inv-loop μ-loop
 all-differ-requires c κs = search needs
 
 returns : tie.Need-returns Inv-loop μ-loop
 returns c =
-    let e : c .before .before .before .before .loop .c ≡ c .before .before .before .before .before .before .args .z .c = omega arith in
-    rw (c .before .before .before .before .loop .inv .3, e) at (c .all-differ .ensures)
+    let e : c .before .before .before .loop .c ≡ body (c .before .before .before .before .before .before .args .z) = omega arith in
+    rw (c .before .before .before .loop .inv .3, e) at (c .all-differ .ensures)
 
 pub epochs-differ-spec : {M : Type 1} → statement M
 epochs-differ-spec =
@@ -88,6 +92,7 @@ epochs-differ-spec =
     (tie.spec
     Inv-loop
     μ-loop
+    body-requires
     loop-holds
     used-requires
     epoch-of-requires

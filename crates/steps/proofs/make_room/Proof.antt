@@ -1,48 +1,56 @@
-use Rattle.steps.proofs.Kept.{roomed, erased-below}
 use Rattle.steps.specs.Turns.{after}
-use Rattle.state.specs.View.{viewOf}
+use Rattle.fifo.specs.View.{listOf}
 use Rattle.meter.specs.Run.{runAll}
-use Rattle.model.specs.Steps.{Plan, makeRoom}
-use Rattle.model.specs.Stores.{erase}
-use mathlib.Core.List.{[], _∷_}
-use mathlib.Core.Path.{_≡_, sym, ap}
+use Rattle.model.specs.Steps.{makeRoom, nothing}
+use Rattle.lists.proofs.Arrays.{empty-length}
+use borrow.Author.Tests.{eq-eqb, ne-eqb}
+use mathlib.Core.Path.{_≡_, sym, _∙_}
 use borrow.Author.Needs.{needs}
 use Rattle.steps.proofs.make_room.Statement.{statement}
 use Rattle.steps.proofs.make_room.Tie as tie
+use Rattle.steps.proofs.make_room.Reads as reads
+use Rattle.steps.proofs.make_room.Lts as lts
+use Rattle.fifo.proofs.Fifo.used.Reads as used-reads
+use Rattle.steps.proofs.erase_step.Reads as erase-step-reads
 
-make-room-requires : tie.Need-make-room-requires
-make-room-requires c κs = roomed (viewOf (c .before .before .before .before .args .s)) (c .before .before .before .before .pre .1) .orderly .bounded
+-- src/lib.rt:54:9
+used-requires : tie.Need-used-requires
+used-requires c κs = search needs
 
-erase-bucket-requires : tie.Need-erase-bucket-requires
-erase-bucket-requires c κs = let start = c .before .before .before .before .before .before .before .before .before .before in
-    let s = viewOf (start .args .s) in
-    let room = c .before .before .before .before .before .make-room in
-    let stores : makeRoom s .stores ≡ erase (room .result .erased) ∷ [] = rw (c .before .before .before .if1 .taken) at (sym (ap (λ (p : Plan). p .stores) (room .ensures))) in
-    (start .pre .0, erased-below s (start .pre .1) (room .result .erased) stores)
+-- src/lib.rt:56:9
+erase-step-requires : tie.Need-erase-step-requires
+erase-step-requires c κs = search needs
 
+-- src/lib.rt:56:9
 same-length : tie.Need-same-length
 same-length c = search needs
 
+-- src/lib.rt:56:9
 same-length-2 : tie.Need-same-length-2
 same-length-2 c = search needs
 
+-- src/lib.rt:56:9
 same-length-3 : tie.Need-same-length-3
 same-length-3 c = search needs
 
+-- src/lib.rt:56:9
 returns : tie.Need-returns
-unfolding after runAll
-returns c = (rw (← c .before .before .before .before .before .before .before .before .before .before .before .before .make-room .ensures, c .before .before .before .before .before .before .before .before .before .before .if1 .taken, c .before .before .before .before .before .before .erase-bucket .ensures .0), c .before .before .before .before .before .before .erase-bucket .ensures .1)
+unfolding after makeRoom
+returns c = let free = listOf (c .before .before .before .before .before .before .before .before .before .before .before .before .before .before .before .args .s .free) in
+    (rw (empty-length free, eq-eqb _ _ (sym (c .before .before .before .before .before .before .before .before .before .before .before .used .ensures .0) ∙ c .before .before .before .before .before .before .before .before .before .before .if1 .taken)) (c .before .before .before .before .before .before .erase-step .ensures .0), c .before .before .before .before .before .before .erase-step .ensures .1)
 
+-- src/lib.rt:42:1
 returns-2 : tie.Need-returns-2
-unfolding after runAll
-returns-2 c = (rw (← c .before .before .make-room .ensures, c .if1 .left), c .before .before .before .before .before .before .before .pre .0)
+unfolding after makeRoom nothing runAll
+returns-2 c = let free = listOf (c .before .before .before .before .before .args .s .free) in
+    (rw (empty-length free, ne-eqb _ _ (λ z. c .if1 .left (c .before .used .ensures .0 ∙ z))), c .before .before .before .before .before .pre .0)
 
 pub make-room-spec : {M : Type 1} → statement M
 make-room-spec =
     tie.close
     (tie.spec
-    make-room-requires
-    erase-bucket-requires
+    used-requires
+    erase-step-requires
     same-length
     same-length-2
     same-length-3

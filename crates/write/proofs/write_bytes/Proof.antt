@@ -1,4 +1,7 @@
-use Rattle.write.proofs.Ended.{write-left, write-handed}
+use mathlib.Core.Path.{refl}
+use Rattle.model.specs.Operations.{write}
+use Rattle.model.specs.Calls.{writeCall, sizesOf, lentBuffer, readBuffer, doneAnswer}
+use Rattle.outcome.proofs.Ends.{step-left, step-handed}
 use Rattle.geometry.specs.Geometry.{device}
 use borrow.Author.Needs.{needs}
 use Rattle.write.proofs.write_bytes.Statement.{statement}
@@ -8,8 +11,9 @@ write-log-requires : tie.Need-write-log-requires
 write-log-requires c κs = search needs
 
 finish-requires : tie.Need-finish-requires
+unfolding sizesOf
 finish-requires c κs = let a = c .before .before .before .before .before .before .before .before .before .before .before .before .before .before .before .before .args in
-    write-left (a .allowance) (a .b) (a .offset) (a .bytes .now) (a .s) (device (a .flash .now) (a .spare .now) (a .disk .now)) (c .before .before .before .before .before .before .before .before .write-log .ensures .0)
+    step-left (a .allowance) (writeCall (a .b) (a .offset) (a .bytes .now)) (a .s) (device (a .flash .now) (a .spare .now) (a .disk .now)) (write (a .s .sizes) (a .b) (a .offset) (a .bytes .now)) (c .before .before .before .before .before .before .before .before .write-log .ensures .0)
 
 same-length : tie.Need-same-length
 same-length c = search needs
@@ -21,9 +25,10 @@ same-length-3 : tie.Need-same-length-3
 same-length-3 c = search needs
 
 returns : tie.Need-returns
+unfolding sizesOf doneAnswer lentBuffer readBuffer
 returns c = let a = c .before .before .before .before .before .before .before .before .before .before .before .before .before .before .before .before .before .args in
     rw (c .finish .ensures)
-    (write-handed (a .allowance) (a .b) (a .offset) (a .bytes .now) (a .s) (device (a .flash .now) (a .spare .now) (a .disk .now)) (c .before .before .before .before .before .before .before .before .before .write-log .ensures .0))
+    (step-handed (a .allowance) (writeCall (a .b) (a .offset) (a .bytes .now)) (a .s) (device (a .flash .now) (a .spare .now) (a .disk .now)) (write (a .s .sizes) (a .b) (a .offset) (a .bytes .now)) (c .before .before .before .before .before .before .before .before .before .write-log .ensures .0) refl refl)
 
 pub write-bytes-spec : {M : Type 1} → statement M
 write-bytes-spec =

@@ -1,6 +1,6 @@
 use Rattle.write.proofs.Yielded.{fit-pages, way-left, written-by, write-starts}
 use Rattle.arrival.proofs.Arrived.{same-fits}
-use Rattle.steps.proofs.Kept.{chip-some}
+use Rattle.steps.proofs.Kept.{body-some}
 use Rattle.steps.proofs.Inside.{cache-inside}
 use Rattle.state.specs.View.{viewOf}
 use Rattle.queue.specs.View.{entriesOf}
@@ -8,7 +8,9 @@ use Rattle.image.specs.Chip.{spareOnly}
 use Rattle.geometry.proofs.Passed.{products}
 use Rattle.geometry.specs.Geometry.{device}
 use Rattle.model.specs.Operations.{fits, write}
-use Rattle.model.specs.Sizes.{bucketSize, pagesFor}
+use Rattle.model.specs.Sizes.{bucketSize, pagesFor, body}
+use Rattle.model.proofs.Limits.{on-chip}
+use Rattle.steps.specs.Turns.{after}
 use lib.ListN.{length}
 use native.Mathlib.Omega.{arith}
 use mathlib.Core.Bool.{true, false}
@@ -23,7 +25,7 @@ fits-requires c κs = let start = c .before .before .before .before .before in
     let a = start .args in
     let orderly = start .pre .1 .yields .ready .orderly in (
       record { limits = orderly .limits; spare-length = start .pre .0 .spare-length },
-      (cache-inside (a .s .sizes .c) (a .b) (entriesOf (a .s .writes)) (orderly .writes) (chip-some orderly), omega (arith, start .pre .1 .room, products (orderly .limits))),
+      (on-chip (a .s .sizes) _ (cache-inside (body (a .s .sizes)) (a .b) (entriesOf (a .s .writes)) (orderly .writes) (body-some orderly)), omega (arith, start .pre .1 .room, products (orderly .limits))),
     )
 
 append-log-requires : tie.Need-append-log-requires
@@ -35,7 +37,7 @@ append-log-requires c κs = let start = c .before .before .before .before .befor
       start .pre .0,
       record {
         limits = orderly .limits;
-        bucket = cache-inside (a .s .sizes .c) (a .b) (entriesOf (a .s .writes)) (orderly .writes) (chip-some orderly);
+        bucket = on-chip (a .s .sizes) _ (cache-inside (body (a .s .sizes)) (a .b) (entriesOf (a .s .writes)) (orderly .writes) (body-some orderly));
         some = writes .some;
         room = writes .room;
         pages = fit-pages (a .s .sizes) (spareOnly (a .spare .now)) (a .b) pages (viewOf (a .s)) (sym (c .before .before .before .before .fits2 .ensures) ∙ c .before .before .before .if1 .taken);
@@ -52,7 +54,7 @@ same-length-3 : tie.Need-same-length-3
 same-length-3 c = search needs
 
 returns : tie.Need-returns
-unfolding write
+unfolding write after
 returns c = let a = c .before .before .before .before .before .before .before .before .before .before .before .before .before .before .before .before .before .args in
     let z = a .s .sizes in
     let d = device (a .flash .now) (a .spare .now) (a .disk .now) in
@@ -66,9 +68,8 @@ make-way-requires c κs = (c .before .before .before .before .before .before .be
 start-log-requires : tie.Need-start-log-requires
 start-log-requires c κs = let start = c .before .before .before .before .before .before .before .before .before .before .before .before .before .before .before .before .before .before .before .before .before .before in
     let a = start .args in
-    let d = device (a .flash .now) (a .spare .now) (a .disk .now) in
     let made = c .before .before .before .before .before .before .before .before .before .before .before .make-way .ensures in
-    let way = way-left (viewOf (a .s)) (a .spare .now) (start .pre .1 .yields) d (a .b) _ (made .0) in
+    let way = way-left (viewOf (a .s)) (a .spare .now) (start .pre .1 .yields) (a .b) _ (made .0) in
     (rw (way .sizes) (made .1), write-starts (start .pre .1) way)
 
 same-length-4 : tie.Need-same-length-4
@@ -89,8 +90,8 @@ returns-2 c = let start = c .before .before .before .before .before .before .bef
     let full : fits z d (a .b) pages (viewOf (a .s)) ≡ false = sym (same-fits z d (a .b) pages (viewOf (a .s))) ∙ sym (c .before .before .before .before .before .before .before .before .before .before .before .before .before .before .before .before .before .before .before .before .before .before .before .fits2 .ensures) ∙ c .before .before .before .before .before .before .before .before .before .before .before .before .before .before .before .before .before .before .before .before .before .before .if1 .left in
     let made = c .before .before .before .before .before .before .before .before .before .before .before .before .before .before .before .before .before .before .make-way .ensures in
     let started = c .before .before .before .before .before .before .start-log .ensures in (
-      written-by (viewOf (a .s)) (a .spare .now) (start .pre .1 .yields) d (a .b) _ (made .0) (a .offset) (a .bytes .now) full (started .0 d),
-      rw (way-left (viewOf (a .s)) (a .spare .now) (start .pre .1 .yields) d (a .b) _ (made .0) .sizes) at (started .1),
+      written-by (viewOf (a .s)) (a .spare .now) (start .pre .1 .yields) (a .b) _ (made .0) (a .offset) (a .bytes .now) full (started .0),
+      rw (way-left (viewOf (a .s)) (a .spare .now) (start .pre .1 .yields) (a .b) _ (made .0) .sizes) at (started .1),
     )
 
 pub write-log-spec : {M : Type 1} → statement M

@@ -7,7 +7,7 @@ use Rattle.model.specs.State.{moved, entry}
 use Rattle.model.specs.declared.Entry.{Entry}
 use Rattle.fifo.specs.View.{listOf}
 use Rattle.state.proofs.Bounds.{gc-fits}
-use Rattle.state.specs.View.{withoutOldest}
+use Rattle.model.specs.Operations.{withoutOldest}
 use Rattle.state.proofs.State.drop_oldest.Statement.{statement}
 use Rattle.state.proofs.State.drop_oldest.Tie as tie
 

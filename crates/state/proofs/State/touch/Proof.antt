@@ -9,7 +9,7 @@ most-recent-requires c κs = search needs
 
 returns : tie.Need-returns
 unfolding touch moved
-returns c = λ z d. rw (c .most-recent .ensures)
+returns c = rw (c .most-recent .ensures)
 
 pub touch-spec : {M : Type 1} → statement M
 touch-spec = tie.close (tie.spec most-recent-requires returns)

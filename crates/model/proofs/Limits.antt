@@ -7,36 +7,55 @@ use native.Mathlib.Nat.{add-mul-div-right, div-eq-of-lt, div-add-mod', mod-lt, l
 use borrow.Author.Tests.{leb-true}
 use Rattle.lists.proofs.Tests.{every-at, within-low, within-high}
 use Rattle.model.specs.declared.Sizes.{Sizes}
-use Rattle.model.specs.Sizes.{limits, bucketSize, pagesFor}
+use Rattle.model.specs.Sizes.{limits, bucketSize, pagesFor, body}
 
-pub record Bounds (z : Sizes) : Type 0 where
+-- what number 1 says once it is passed
+pub record Limits (z : Sizes) : Type 0 where
   pub s-low : 4 ≤ z .s
   pub s-high : z .s ≤ 1024
   pub p-low : 1 ≤ z .p
   pub p-high : z .p ≤ 64
+  pub c-low : 3 ≤ z .c
+  pub c-high : z .c ≤ 256
+  pub b-low : 1 ≤ z .b
   pub b-high : z .b ≤ 65535
   pub r-low : 1 ≤ z .r
+  pub r-high : z .r ≤ 64
   pub w-low : 1 ≤ z .w
-  pub room : z .r + z .w + 1 ≤ z .c
+  pub w-high : z .w ≤ 64
+  pub room : z .r + z .w + 1 ≤ body z
+  pub body-high : body z ≤ z .c
   pub size-high : bucketSize z ≤ 65536
 
 module _ (z : Sizes) where
-  pub bounds-of : limits z ≡ true → Bounds z
-  unfolding limits bucketSize
-  bounds-of h =
-      let s-high : z .s ≤ 1024 = within-high 4 1024 (z .s) (every-at _ h 0) in
-      let p-high : z .p ≤ 64 = within-high 1 64 (z .p) (every-at _ h 1) in
+  pub limits-of : limits z ≡ true → Limits z
+  unfolding limits bucketSize body
+  limits-of h =
+      let t = every-at _ h in
+      let s-high : z .s ≤ 1024 = within-high 4 1024 (z .s) (t 0) in
+      let p-high : z .p ≤ 64 = within-high 1 64 (z .p) (t 1) in
       record {
-        s-low = within-low 4 1024 (z .s) (every-at _ h 0);
+        s-low = within-low 4 1024 (z .s) (t 0);
         s-high = s-high;
-        p-low = within-low 1 64 (z .p) (every-at _ h 1);
+        p-low = within-low 1 64 (z .p) (t 1);
         p-high = p-high;
-        b-high = within-high 1 65535 (z .b) (every-at _ h 3);
-        r-low = within-low 1 64 (z .r) (every-at _ h 4);
-        w-low = within-low 1 64 (z .w) (every-at _ h 5);
-        room = leb-true (z .r + z .w + 1) (z .c) (every-at _ h 6);
+        c-low = within-low 3 256 (z .c) (t 2);
+        c-high = within-high 3 256 (z .c) (t 2);
+        b-low = within-low 1 65535 (z .b) (t 3);
+        b-high = within-high 1 65535 (z .b) (t 3);
+        r-low = within-low 1 64 (z .r) (t 4);
+        r-high = within-high 1 64 (z .r) (t 4);
+        w-low = within-low 1 64 (z .w) (t 5);
+        w-high = within-high 1 64 (z .w) (t 5);
+        room = leb-true (z .r + z .w + 1) (z .c) (t 6);
+        body-high = omega arith;
         size-high = mul-le-mul p-high s-high;
       }
+
+  -- the buckets that stand in queues are on the chip
+  pub on-chip : (c : ℕ) → c < body z → c < z .c
+  unfolding body
+  on-chip c h = h
 
   -- ---- a log's pages
 
