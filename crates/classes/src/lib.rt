@@ -203,7 +203,7 @@ pub fn selected(z: Sizes, rule: Rule, from: Fifo, list: Fifo, spare: &[u8]) -> F
     kept
 }
 
-// The buckets of the chip that are such.
+// The cache buckets that are such, rising.
 pub fn buckets(z: Sizes, kind: Kind, spare: &[u8]) -> Fifo
     requires { ⌜ Chip z (now spare) ⌝ }
     ensures { λ r. ⌜ listOf r ≡ buckets z (spareOnly (now (spare .entry))) (isKind z (spareOnly (now (spare .entry))) kind) ⌝ }

@@ -179,10 +179,7 @@ fn drain_whole(
     requires { ⌜ Drains (viewOf s) (now spare) ⌝ }
     ensures { λ r. ⌜ handedBack (device (now (flash .exit)) (now (spare .exit)) (now (disk .exit))) [] r ≡ handed s (carryOut allowance drainCall (viewOf s) (device (now (flash .entry)) (now (spare .entry)) (now (disk .entry))) (drain (s .sizes) (viewOf s) (device (now (flash .entry)) (now (spare .entry)) (now (disk .entry))))) ⌝ }
 {
-    let whole = Meter {
-        left: allowance,
-        cut: false,
-    };
+    let whole = Meter::whole(allowance);
     let turn = drain_queues(whole, s, flash, spare, disk);
     let left = turn.meter;
     let state = turn.state;

@@ -32,10 +32,7 @@ fn erase_head(
     ensures { λ r. ⌜ handedBack (device (now (flash .exit)) (now (spare .exit)) (now (disk .exit))) [] r ≡ handed s (carryOut allowance eraseCall (viewOf s) (device (now (flash .entry)) (now (spare .entry)) (now (disk .entry))) (eraseStep (s .sizes) (viewOf s) (device (now (flash .entry)) (now (spare .entry)) (now (disk .entry))))) ⌝ }
 {
     let full = full_answer(s);
-    let whole = Meter {
-        left: allowance,
-        cut: false,
-    };
+    let whole = Meter::whole(allowance);
     let turn = steps::erase_step(whole, s, flash, spare, disk);
     let left = turn.meter;
     let state = turn.state;

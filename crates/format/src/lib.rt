@@ -62,10 +62,7 @@ fn format_chip(
     requires { ⌜ Lent z (now flash) (now spare) (now disk) ⌝ }
     ensures { λ r. ⌜ handedBack (device (now (flash .exit)) (now (spare .exit)) (now (disk .exit))) [] r ≡ handed s (carryOut allowance (formatCall z) (viewOf s) (device (now (flash .entry)) (now (spare .entry)) (now (disk .entry))) (format z)) ⌝ }
 {
-    let whole = Meter {
-        left: allowance,
-        cut: false,
-    };
+    let whole = Meter::whole(allowance);
     let after = erase_all(whole, z, flash, spare, disk);
     let new = formatted(z);
     outcome::finish(after, allowance, Answer::Done, s, new)

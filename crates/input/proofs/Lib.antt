@@ -1,3 +1,3 @@
 pub mod Cut
-pub mod Pieces
+pub mod Behind
 pub mod Onward

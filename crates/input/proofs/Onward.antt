@@ -11,9 +11,10 @@ use Rattle.model.specs.Driving.{Recorder, Printed, onLine, linesFrom, onLines}
 use Rattle.drive.specs.declared.Printed.{Printed as PrintedStruct}
 use Rattle.drive.specs.Recorder.{recorderOf, printedOf}
 use Rattle.input.specs.declared.Walk.{Walk}
-use Rattle.input.specs.Ahead.{shownOf, lineShown, OneLine}
+use Rattle.lines.specs.Lines.{OneLine}
+use Rattle.input.specs.Ahead.{shownOf, lineShown}
 use Rattle.input.proofs.Cut.{cut-lines}
-use Rattle.input.proofs.Pieces.{take-behind}
+use Rattle.input.proofs.Behind.{take-behind}
 
 -- a line's text behind what is printed
 pub line-shown : (w : Walk) (p : PrintedStruct) (line flash spare disk flash' spare' disk' out back rest : List ℕ)

@@ -1,9 +1,8 @@
 -- How far the program has come with its input.
-use Prim.Native.Nat.{ℕ, _-_, _≤_}
+use Prim.Native.Nat.{ℕ, _≤_}
 use mathlib.Core.Path.{_≡_}
 use mathlib.Core.List.{List, _++_}
-use lib.ListN.{length, take, drop}
-use Rattle.lists.specs.Lists.{part}
+use lib.ListN.{length, take}
 use Rattle.model.specs.Driving.{Printed, onLine, linesFrom, onLines}
 use Rattle.calls.specs.Arrays.{Arrays}
 use Rattle.drive.specs.Recorder.{recorderOf, Ready}
@@ -20,10 +19,6 @@ shownOf w flash spare disk out = record { recorder = recorderOf (w .recorder) fl
 -- the same after a further line
 unfoldable pub lineShown : Printed → List ℕ → Printed
 lineShown p line = let q = onLine (p .recorder) line in record { recorder = q .recorder; text = p .text ++ q .text }
-
--- the bytes of a piece from one place to another are of one line
-abbrev pub OneLine : (piece : List ℕ) → (from end : ℕ) → Type 0
-OneLine piece from end = (line rest : List ℕ) → linesFrom line (drop from piece ++ rest) ≡ linesFrom (line ++ part piece from (end - from)) (drop end piece ++ rest)
 
 -- what holds from step to step
 pub record Sound (w : Walk) (line buffer flash spare disk out : List ℕ) : Type 0 where

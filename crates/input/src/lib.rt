@@ -7,11 +7,11 @@ use state::State;
 ghost use mathlib.Core.Path.{_≡_};
 ghost use mathlib.Core.List.{List, [], _++_};
 ghost use Prim.Native.Nat.{ℕ, _+_, _<_, _≤_};
-ghost use lib.ListN.{length, take, drop, getD, replicate};
+ghost use lib.ListN.{length, take, drop, replicate};
 ghost use Rattle.model.specs.Driving.{output};
 ghost use Rattle.calls.specs.Arrays.{Arrays};
 ghost use Rattle.drive.specs.Recorder.{Ready};
-ghost use Rattle.input.specs.Ahead.{shownOf, lineShown, OneLine, ahead, Sound};
+ghost use Rattle.input.specs.Ahead.{shownOf, lineShown, ahead, Sound};
 
 // How far the program has come.
 pub struct Walk {
@@ -22,22 +22,6 @@ pub struct Walk {
     pub passed: usize,
     // the characters printed and not yet written
     pub printed: usize,
-}
-
-// Where the line ends: at the next line feed, or with the piece.
-fn line_end(piece: &[u8], from: usize) -> usize
-    requires { ⌜ from ≤ length (now piece) ⌝ }
-    ensures { λ r. ⌜ (from ≤ r) × (r ≤ length (now (piece .entry))) × (r < length (now (piece .entry)) → getD (now (piece .entry)) r 0 ≡ 10) ⌝ }
-    ensures { λ r. ⌜ OneLine (now (piece .entry)) from r ⌝ }
-{
-    let mut end = from;
-    while end < piece.len() {
-        if piece[end] == 10 {
-            return end;
-        }
-        end += 1;
-    }
-    end
 }
 
 // More bytes of the line. It is cut at 513, for any longer line is F0 too.
@@ -105,7 +89,7 @@ pub fn advance(
     ensures { λ r. ⌜ Sound r (now (line .exit)) (now (buffer .exit)) (now (flash .exit)) (now (spare .exit)) (now (disk .exit)) (now (out .exit)) × (w .passed < r .passed) × (r .passed ≤ length (now (piece .entry))) ⌝ }
 {
     let from = w.passed;
-    let end = line_end(piece, from);
+    let end = lines::line_end(piece, from);
     let held = gather(line, w.held, &piece[from..end]);
     if end == piece.len() {
         let mut on = w;

@@ -2,6 +2,7 @@
 use device::Store;
 use model::Sizes;
 ghost use mathlib.Core.Path.{_≡_};
+ghost use mathlib.Core.Bool.{false};
 ghost use Rattle.geometry.specs.Geometry.{Lent};
 ghost use Prim.Native.Nat.{_<_};
 ghost use Rattle.model.specs.Stores.{erase};
@@ -11,6 +12,18 @@ ghost use Rattle.meter.specs.Run.{running, step};
 pub struct Meter {
     pub left: usize,
     pub cut: bool,
+}
+
+impl Meter {
+    // The whole allowance, nothing made of it yet.
+    pub fn whole(allowance: usize) -> Meter
+        ensures { λ r. ⌜ r ≡ record { left = allowance; cut = false } ⌝ }
+    {
+        Meter {
+            left: allowance,
+            cut: false,
+        }
+    }
 }
 
 // After a cut an operation goes on asking, and nothing more is made.

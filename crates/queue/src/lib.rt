@@ -8,7 +8,7 @@ ghost use lib.Seq.{paste};
 ghost use Rattle.lists.specs.Lists.{distinct};
 ghost use Rattle.lists.specs.Arrays.{joined};
 ghost use Rattle.fifo.specs.View.{listOf};
-ghost use Rattle.model.specs.State.{holds, cacheOf, without, caches, backs};
+ghost use Rattle.model.specs.State.{entry, holds, cacheOf, without, caches, backs};
 ghost use Rattle.model.specs.Operations.{halved, prioritised};
 ghost use Rattle.queue.specs.View.{entriesOf, noEntry, queueOf, placeOf};
 
@@ -17,15 +17,22 @@ pub struct Queue {
     pub len: usize,
 }
 
+// A place in a queue.
+pub fn entry(back: u16, cache: u8, priority: u8) -> Entry
+    ensures { λ r. ⌜ r ≡ entry back cache priority ⌝ }
+{
+    Entry {
+        back,
+        cache,
+        priority,
+    }
+}
+
 impl Queue {
     pub fn empty() -> Queue
         ensures { λ r. ⌜ r ≡ queueOf [] ⌝ }
     {
-        let none = Entry {
-            back: 0,
-            cache: 0,
-            priority: 0,
-        };
+        let none = entry(0, 0, 0);
         Queue {
             items: [none; 64],
             len: 0,
@@ -59,11 +66,7 @@ impl Queue {
     {
         let len = self.len;
         if len == 0 {
-            return Entry {
-                back: 0,
-                cache: 0,
-                priority: 0,
-            };
+            return entry(0, 0, 0);
         }
         self.items[0]
     }
@@ -263,11 +266,7 @@ fn halves(items: [Entry; 64], n: usize) -> [Entry; 64]
     let mut i = 0;
     while i < n {
         let e = items[i];
-        a[i] = Entry {
-            back: e.back,
-            cache: e.cache,
-            priority: e.priority / 2,
-        };
+        a[i] = entry(e.back, e.cache, e.priority / 2);
         i += 1;
     }
     a

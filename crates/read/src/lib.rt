@@ -42,10 +42,7 @@ fn answer(
     ensures { λ r. ⌜ handedBack (device (now (flash .entry)) (now (spare .entry)) (now (disk .entry))) (now (buffer .exit)) r ≡ handed s (carryOut allowance (readCall b offset (now (buffer .entry))) (viewOf s) (device (now (flash .entry)) (now (spare .entry)) (now (disk .entry))) (nothing (viewOf new) (device (now (flash .entry)) (now (spare .entry)) (now (disk .entry))))) ⌝ }
 {
     gather::merged_range(s, b, offset, flash, spare, disk, buffer);
-    let whole = Meter {
-        left: allowance,
-        cut: false,
-    };
+    let whole = Meter::whole(allowance);
     outcome::finish(whole, allowance, Answer::Done, s, new)
 }
 
@@ -111,10 +108,7 @@ fn copy_by(
     ensures { λ r. ⌜ handedBack (device (now (flash .exit)) (now (spare .exit)) (now (disk .exit))) (now (buffer .exit)) r ≡ handed s (carryOut allowance (readCall b offset (now (buffer .entry))) (viewOf s) (device (now (flash .entry)) (now (spare .entry)) (now (disk .entry))) (copyOf (s .sizes) b (merged (s .sizes) (viewOf s) (device (now (flash .entry)) (now (spare .entry)) (now (disk .entry))) b) (viewOf s) (device (now (flash .entry)) (now (spare .entry)) (now (disk .entry))))) ⌝ }
 {
     gather::merged_into(s, b, flash, spare, disk, bytes);
-    let whole = Meter {
-        left: allowance,
-        cut: false,
-    };
+    let whole = Meter::whole(allowance);
     let turn = make_copy(whole, s, b, bytes, flash, spare, disk);
     let left = turn.meter;
     let state = turn.state;

@@ -37,17 +37,9 @@ fn place(z: Sizes, c: u8, counted: bool, spare: &[u8]) -> Entry
     let back = image::back_of(z, c as usize, spare);
     if counted {
         let blanks = image::blanks(z, c as usize, spare);
-        Entry {
-            back,
-            cache: c,
-            priority: blanks as u8,
-        }
+        queue::entry(back, c, blanks as u8)
     } else {
-        Entry {
-            back,
-            cache: c,
-            priority: 0,
-        }
+        queue::entry(back, c, 0)
     }
 }
 
@@ -124,10 +116,7 @@ fn recover_chip(
     let writes = classes::write_classes(z, spare);
     let copies = classes::copy_classes(z, writes.dropped, spare);
     let new = recovered(z, writes, copies, spare);
-    let whole = Meter {
-        left: allowance,
-        cut: false,
-    };
+    let whole = Meter::whole(allowance);
     let after = rescue::rescue(whole, z, writes, copies, flash, spare, disk);
     outcome::finish(after, allowance, Answer::Done, s, new)
 }

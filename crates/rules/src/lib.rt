@@ -219,9 +219,9 @@ fn epochs_differ(z: Sizes, spare: &[u8]) -> bool
     requires { ⌜ Chip z (now spare) ⌝ }
     ensures { λ r. ⌜ r ≡ distinct (map (epochOf z (spareOnly (now (spare .entry)))) (keep (used z (spareOnly (now (spare .entry)))) (below (body z)))) ⌝ }
 {
+    let end = geometry::body(z);
     let mut epochs = [0u32; 256];
     let mut n = 0;
-    let end = geometry::body(z);
     let mut c = 0;
     while c < end {
         if image::used(z, c, spare) {

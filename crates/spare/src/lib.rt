@@ -3,7 +3,7 @@ ghost use mathlib.Core.Path.{_≡_};
 ghost use Prim.Native.Nat.{_+_, _*_, _≤_};
 ghost use lib.ListN.{length};
 ghost use Rattle.lists.specs.Lists.{same, part};
-ghost use Rattle.model.specs.Spare.{two, four, kind, epoch, back, zeros};
+ghost use Rattle.model.specs.Spare.{two, four, blank, kind, epoch, back, zeros};
 ghost use Rattle.spare.specs.Fields.{tag, fields, seen};
 
 // What the spare bytes of a programmed page say. `last` is the log's length less one.
@@ -113,15 +113,22 @@ fn equal(a: &[u8], b: &[u8]) -> bool
     true
 }
 
+// Whether these are the spare bytes of an erased page.
+pub fn is_blank(bytes: &[u8]) -> bool
+    ensures { λ r. ⌜ r ≡ blank (now (bytes .entry)) ⌝ }
+{
+    equal(
+        bytes,
+        b"\xff\xff\xff\xff\xff\xff\xff\xff\xff\xff\xff\xff\xff\xff\xff\xff",
+    )
+}
+
 // What sixteen spare bytes are: those of an erased page, or fields.
 fn look(bytes: &[u8]) -> Seen
     requires { ⌜ length (now bytes) ≡ 16 ⌝ }
     ensures { λ r. ⌜ r ≡ seen (now (bytes .entry)) ⌝ }
 {
-    if equal(
-        bytes,
-        b"\xff\xff\xff\xff\xff\xff\xff\xff\xff\xff\xff\xff\xff\xff\xff\xff",
-    ) {
+    if is_blank(bytes) {
         return Seen::Blank;
     }
     let found = decode(bytes);

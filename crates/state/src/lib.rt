@@ -1,6 +1,5 @@
 // The engine's state by value, and its moves.
 use fifo::Fifo;
-use model::Entry;
 use model::Sizes;
 use queue::Queue;
 ghost use mathlib.Core.Path.{_≡_};
@@ -89,11 +88,7 @@ impl State {
         requires { ⌜ Bounded (takeCopy b (viewOf self)) ⌝ }
         ensures { λ r. ⌜ viewOf r ≡ takeCopy b (viewOf self) ⌝ }
     {
-        let copy = Entry {
-            back: b,
-            cache: self.free.head(),
-            priority: 0,
-        };
+        let copy = queue::entry(b, self.free.head(), 0);
         let gc = with_cache(self.gc, self.reads, b);
         let others = self.reads.without(b);
         let reads = others.push(copy);
@@ -107,11 +102,7 @@ impl State {
         requires { ⌜ Bounded (takeWrite b (viewOf self)) ⌝ }
         ensures { λ r. ⌜ viewOf r ≡ takeWrite b (viewOf self) ⌝ }
     {
-        let arrival = Entry {
-            back: b,
-            cache: self.free.head(),
-            priority: 0,
-        };
+        let arrival = queue::entry(b, self.free.head(), 0);
         let writes = self.writes.push(arrival);
         self.writes = writes;
         self.taken()
@@ -181,11 +172,7 @@ fn most_recent(queue: Queue, b: u16) -> Queue
     if !queue.holds(b) {
         return queue;
     }
-    let copy = Entry {
-        back: b,
-        cache: queue.cache_of(b),
-        priority: 0,
-    };
+    let copy = queue::entry(b, queue.cache_of(b), 0);
     let others = queue.without(b);
     others.push(copy)
 }

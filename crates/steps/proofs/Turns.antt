@@ -32,8 +32,10 @@ module _ (z : Sizes) (f g : Step) (steady : Steady g) (s : State) (r : Run) wher
       ≡ after z g (after z f s r .state) (after z f s r .run)
   unfolding after
   second (inl made) = rw made
-  second (inr cut) = rw (cut (g (f s (r .device) .state) (applyAll z (r .device) (f s (r .device) .stores)) .stores),
-      cut (g (f s (r .device) .state) (runAll z (f s (r .device) .stores) r .device) .stores))
+  second (inr cut) = rw (
+    cut (g (f s (r .device) .state) (applyAll z (r .device) (f s (r .device) .stores)) .stores),
+    cut (g (f s (r .device) .state) (runAll z (f s (r .device) .stores) r .device) .stores),
+  )
       (ap (λ (t : State). record { run = runAll z (f s (r .device) .stores) r; state = t }) (steady (f s (r .device) .state) _ _))
 
   pub after-then : s .sizes ≡ z → after z (f then g) s r ≡ after z g (after z f s r .state) (after z f s r .run)
@@ -42,5 +44,5 @@ module _ (z : Sizes) (f g : Step) (steady : Steady g) (s : State) (r : Run) wher
       let p = f s (r .device) in
       let planned = g (p .state) (applyAll z (r .device) (p .stores)) in
       subst (λ (y : Sizes). record { run = runAll z (p .stores ++ g (p .state) (applyAll y (r .device) (p .stores)) .stores) r; state = g (p .state) (applyAll y (r .device) (p .stores)) .state }
-          ≡ after z g (after z f s r .state) (after z f s r .run)) (sym e)
+      ≡ after z g (after z f s r .state) (after z f s r .run)) (sym e)
       (ap (λ (run : Run). record { run = run; state = planned .state }) (run-append z (p .stores) (planned .stores) r) ∙ second (run-settled z (p .stores) r))

@@ -78,10 +78,7 @@ fn write_bytes(
     requires { ⌜ Writes (viewOf s) (length (now bytes)) (now spare) ⌝ }
     ensures { λ r. ⌜ handedBack (device (now (flash .exit)) (now (spare .exit)) (now (disk .exit))) [] r ≡ handed s (carryOut allowance (writeCall b offset (now (bytes .entry))) (viewOf s) (device (now (flash .entry)) (now (spare .entry)) (now (disk .entry))) (write (s .sizes) b offset (now (bytes .entry)) (viewOf s) (device (now (flash .entry)) (now (spare .entry)) (now (disk .entry))))) ⌝ }
 {
-    let whole = Meter {
-        left: allowance,
-        cut: false,
-    };
+    let whole = Meter::whole(allowance);
     let turn = write_log(whole, s, b, offset, bytes, flash, spare, disk);
     let left = turn.meter;
     let state = turn.state;

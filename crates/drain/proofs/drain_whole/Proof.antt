@@ -1,49 +1,43 @@
-use Rattle.outcome.proofs.Ends.{step-left, step-handed}
-use Rattle.geometry.specs.Geometry.{device}
-use Rattle.model.specs.Calls.{drainCall, sizesOf, doneAnswer, lentBuffer, readBuffer}
-use Rattle.model.specs.Operations.{drain}
 use mathlib.Core.Path.{refl}
 use borrow.Author.Needs.{needs}
+use Rattle.model.specs.Operations.{drain}
+use Rattle.model.specs.Calls.{drainCall, sizesOf, doneAnswer, lentBuffer, readBuffer}
+use Rattle.geometry.specs.Geometry.{device}
+use Rattle.outcome.proofs.Ends.{step-left, step-handed}
 use Rattle.drain.proofs.drain_whole.Statement.{statement}
 use Rattle.drain.proofs.drain_whole.Tie as tie
-use Rattle.drain.proofs.drain_whole.Reads as reads
-use Rattle.drain.proofs.drain_whole.Lts as lts
-use Rattle.drain.proofs.drain_queues.Reads as drain-queues-reads
-use Rattle.outcome.proofs.finish.Reads as finish-reads
 
--- src/lib.rt:186:9
+whole-requires : tie.Need-whole-requires
+whole-requires c κs = search needs
+
 drain-queues-requires : tie.Need-drain-queues-requires
 drain-queues-requires c κs = search needs
 
--- src/lib.rt:189:5
 finish-requires : tie.Need-finish-requires
 unfolding sizesOf
-finish-requires c κs = let a = c .before .before .before .before .before .before .before .before .before .before .before .before .before .before .before .args in
-    step-left (a .allowance) drainCall (a .s) (device (a .flash .now) (a .spare .now) (a .disk .now)) (drain (a .s .sizes)) (c .before .before .before .before .before .before .before .before .drain-queues .ensures .0)
+finish-requires c κs = let a = c .before .before .before .before .before .before .before .before .before .before .before .before .before .before .before .before .args in
+    step-left (a .allowance) drainCall (a .s) (device (a .flash .now) (a .spare .now) (a .disk .now)) (drain (a .s .sizes)) (rw (c .before .before .before .before .before .before .before .before .before .before .before .before .whole .ensures) at (c .before .before .before .before .before .before .before .before .drain-queues .ensures .0))
 
--- src/lib.rt:171:1
 same-length : tie.Need-same-length
 same-length c = search needs
 
--- src/lib.rt:171:1
 same-length-2 : tie.Need-same-length-2
 same-length-2 c = search needs
 
--- src/lib.rt:171:1
 same-length-3 : tie.Need-same-length-3
 same-length-3 c = search needs
 
--- src/lib.rt:171:1
 returns : tie.Need-returns
 unfolding sizesOf doneAnswer lentBuffer readBuffer
-returns c = let a = c .before .before .before .before .before .before .before .before .before .before .before .before .before .before .before .before .args in
+returns c = let a = c .before .before .before .before .before .before .before .before .before .before .before .before .before .before .before .before .before .args in
     rw (c .finish .ensures)
-    (step-handed (a .allowance) drainCall (a .s) (device (a .flash .now) (a .spare .now) (a .disk .now)) (drain (a .s .sizes)) (c .before .before .before .before .before .before .before .before .before .drain-queues .ensures .0) refl refl)
+    (step-handed (a .allowance) drainCall (a .s) (device (a .flash .now) (a .spare .now) (a .disk .now)) (drain (a .s .sizes)) (rw (c .before .before .before .before .before .before .before .before .before .before .before .before .before .whole .ensures) at (c .before .before .before .before .before .before .before .before .before .drain-queues .ensures .0)) refl refl)
 
 pub drain-whole-spec : {M : Type 1} → statement M
 drain-whole-spec =
     tie.close
     (tie.spec
+    whole-requires
     drain-queues-requires
     finish-requires
     same-length

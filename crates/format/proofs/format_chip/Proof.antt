@@ -7,6 +7,9 @@ use borrow.Author.Needs.{needs}
 use Rattle.format.proofs.format_chip.Statement.{statement}
 use Rattle.format.proofs.format_chip.Tie as tie
 
+whole-requires : tie.Need-whole-requires
+whole-requires c κs = search needs
+
 erase-all-requires : tie.Need-erase-all-requires
 erase-all-requires c κs = search needs
 
@@ -16,9 +19,9 @@ formatted-requires c κs = search needs
 finish-requires : tie.Need-finish-requires
 unfolding sizesOf format
 finish-requires c κs =
-    let a = c .before .before .before .before .before .before .before .before .before .before .before .before .before .before .args in
+    let a = c .before .before .before .before .before .before .before .before .before .before .before .before .before .before .before .args in
     let d = device (a .flash .now) (a .spare .now) (a .disk .now) in
-    left-within (a .allowance) (formatCall (a .z)) (a .s) d (format (a .z)) (c .before .before .before .before .before .before .before .erase-all .ensures .0)
+    left-within (a .allowance) (formatCall (a .z)) (a .s) d (format (a .z)) (rw (c .before .before .before .before .before .before .before .before .before .before .before .whole .ensures) at (c .before .before .before .before .before .before .before .erase-all .ensures .0))
 
 same-length : tie.Need-same-length
 same-length c = search needs
@@ -32,14 +35,15 @@ same-length-3 c = search needs
 returns : tie.Need-returns
 unfolding sizesOf format doneAnswer lentBuffer readBuffer
 returns c =
-    let a = c .before .before .before .before .before .before .before .before .before .before .before .before .before .before .before .args in
+    let a = c .before .before .before .before .before .before .before .before .before .before .before .before .before .before .before .before .args in
     let d = device (a .flash .now) (a .spare .now) (a .disk .now) in
-    rw (c .finish .ensures, c .before .formatted .ensures) (handed-quiet (a .allowance) (formatCall (a .z)) (a .s) d (format (a .z)) refl refl (c .before .before .before .before .before .before .before .before .erase-all .ensures .0))
+    rw (c .finish .ensures, c .before .formatted .ensures) (handed-quiet (a .allowance) (formatCall (a .z)) (a .s) d (format (a .z)) refl refl (rw (c .before .before .before .before .before .before .before .before .before .before .before .before .whole .ensures) at (c .before .before .before .before .before .before .before .before .erase-all .ensures .0)))
 
 pub format-chip-spec : {M : Type 1} → statement M
 format-chip-spec =
     tie.close
     (tie.spec
+    whole-requires
     erase-all-requires
     formatted-requires
     finish-requires

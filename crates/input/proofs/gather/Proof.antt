@@ -5,7 +5,7 @@ use native.Mathlib.Omega.{arith}
 use mathlib.Core.List.{_++_}
 use mathlib.Core.Path.{_≡_, sym, _∙_}
 use borrow.Author.Needs.{needs}
-use Rattle.input.proofs.Pieces.{held-cut, held-more}
+use Rattle.input.proofs.Behind.{held-cut, held-more}
 use Rattle.input.proofs.gather.Statement.{statement}
 use Rattle.input.proofs.gather.Tie as tie
 

@@ -5,7 +5,7 @@ use Prim.Native.Nat.{_-_}
 use mathlib.Core.Path.{refl}
 use borrow.Author.Needs.{needs}
 use Rattle.input.proofs.Onward.{line-shown}
-use Rattle.input.proofs.Pieces.{behind-inside}
+use Rattle.input.proofs.Behind.{behind-inside}
 use Rattle.input.proofs.walk_line.Statement.{statement}
 use Rattle.input.proofs.walk_line.Tie as tie
 

@@ -5,7 +5,6 @@ use native.Mathlib.Omega.{arith}
 use lib.ListN.{length, take, length-set}
 use borrow.Author.Needs.{needs}
 use Rattle.lists.proofs.Arrays.{mapped-more}
-use Rattle.model.specs.State.{entry}
 use Rattle.model.specs.Operations.{halved}
 use Rattle.queue.specs.View.{noEntry}
 use Rattle.queue.proofs.halves.Statement.{statement}
@@ -26,6 +25,9 @@ mul-e c = search needs
 array-copy-out-e : tie.Need-array-copy-out-e Inv-loop μ-loop
 array-copy-out-e c = search needs
 
+entry-requires : tie.Need-entry-requires Inv-loop μ-loop
+entry-requires c κs = search needs
+
 mul-a : tie.Need-mul-a Inv-loop μ-loop
 mul-a c = search needs
 
@@ -39,10 +41,10 @@ loop-less : tie.Need-loop-less Inv-loop μ-loop
 loop-less c = search needs
 
 loop-again : tie.Need-loop-again Inv-loop μ-loop
-unfolding halved entry
-loop-again c = let l = c .before .before .before .loop in
-    let x = c .before .before .before .before .args in
-    (search needs, mapped-more halved (l .i) (x .t1) (l .a) noEntry (omega arith) (omega arith) (l .inv .1), rw length-set (l .inv .2), l .inv .3)
+unfolding halved
+loop-again c = let l = c .before .before .before .before .loop in
+    let x = c .before .before .before .before .before .args in
+    (search needs, rw (c .entry .ensures) (mapped-more halved (l .i) (x .t1) (l .a) noEntry (omega arith) (omega arith) (l .inv .1)), rw length-set (l .inv .2), l .inv .3)
 
 returns : tie.Need-returns Inv-loop μ-loop
 returns c = let l = c .before .loop in
@@ -58,6 +60,7 @@ halves-spec =
     loop-holds
     mul-e
     array-copy-out-e
+    entry-requires
     mul-a
     array-set-from-a
     add-i

@@ -15,25 +15,28 @@ merged-into-requires : tie.Need-merged-into-requires
 merged-into-requires c κs = let p = c .before .before .before .before .before .before .before .before .before .pre in
     (sources (p .1 .0) (p .0), p .1 .1 .1)
 
+whole-requires : tie.Need-whole-requires
+whole-requires c κs = search needs
+
 make-copy-requires : tie.Need-make-copy-requires
-make-copy-requires c κs = let p = c .before .before .before .before .before .before .before .before .before .before .before .before .before .before .before .before .pre in
-    (p .0, (p .1 .0 .drops, p .1 .1 .0, omega (arith, c .before .before .before .before .before .bytes .given, p .1 .1 .1)))
+make-copy-requires c κs = let p = c .before .before .before .before .before .before .before .before .before .before .before .before .before .before .before .before .before .pre in
+    (p .0, (p .1 .0 .drops, p .1 .1 .0, omega (arith, c .before .before .before .before .before .before .bytes .given, p .1 .1 .1)))
 
 show-requires : tie.Need-show-requires
-show-requires c κs = let p = c .before .before .before .before .before .before .before .before .before .before .before .before .before .before .before .before .before .before .before .before .before .before .before .before .before .before .before .pre in
-    omega (arith, p .1 .0 .range, c .before .before .before .before .before .before .before .before .before .before .before .before .before .before .before .before .bytes .given, p .1 .1 .1)
+show-requires c κs = let p = c .before .before .before .before .before .before .before .before .before .before .before .before .before .before .before .before .before .before .before .before .before .before .before .before .before .before .before .before .pre in
+    omega (arith, p .1 .0 .range, c .before .before .before .before .before .before .before .before .before .before .before .before .before .before .before .before .before .bytes .given, p .1 .1 .1)
 
 finish-requires : tie.Need-finish-requires
 unfolding sizesOf
-finish-requires c κs = let a = c .before .before .before .before .before .before .before .before .before .before .before .before .before .before .before .before .before .before .before .before .before .before .before .before .before .before .before .before .before .before .args in
+finish-requires c κs = let a = c .before .before .before .before .before .before .before .before .before .before .before .before .before .before .before .before .before .before .before .before .before .before .before .before .before .before .before .before .before .before .before .args in
     let d = device (a .flash .now) (a .spare .now) (a .disk .now) in
-    step-left (a .allowance) (readCall (a .b) (a .offset) (a .buffer .now)) (a .s) d _ (c .before .before .before .before .before .before .before .before .before .before .before .before .before .make-copy .ensures .0)
+    step-left (a .allowance) (readCall (a .b) (a .offset) (a .buffer .now)) (a .s) d _ (rw (c .before .before .before .before .before .before .before .before .before .before .before .before .before .before .before .before .before .before .whole .ensures) at (c .before .before .before .before .before .before .before .before .before .before .before .before .before .make-copy .ensures .0))
 
 same-length : tie.Need-same-length
 same-length c = search needs
 
 same-length-2 : tie.Need-same-length-2
-same-length-2 c = omega (arith, c .before .before .before .before .before .before .before .before .before .before .before .before .before .before .before .before .before .before .before .before .bytes .given)
+same-length-2 c = omega (arith, c .before .before .before .before .before .before .before .before .before .before .before .before .before .before .before .before .before .before .before .before .before .bytes .given)
 
 same-length-3 : tie.Need-same-length-3
 same-length-3 c = search needs
@@ -45,19 +48,20 @@ same-length-5 : tie.Need-same-length-5
 same-length-5 c = search needs
 
 returns : tie.Need-returns
-returns c = let a = c .before .before .before .before .before .before .before .before .before .before .before .before .before .before .before .before .before .before .before .before .before .before .before .before .before .before .before .before .before .before .before .args in
+returns c = let a = c .before .before .before .before .before .before .before .before .before .before .before .before .before .before .before .before .before .before .before .before .before .before .before .before .before .before .before .before .before .before .before .before .args in
     let z = a .s .sizes in
     let v = viewOf (a .s) in
     let d = device (a .flash .now) (a .spare .now) (a .disk .now) in
-    let bytes = c .before .before .before .before .before .before .before .before .before .before .before .before .before .before .before .before .before .before .before .before .before .merged-into .ensures in
+    let bytes = c .before .before .before .before .before .before .before .before .before .before .before .before .before .before .before .before .before .before .before .before .before .before .merged-into .ensures in
     rw (c .finish .ensures)
-    (handed-read (a .allowance) (a .s) d (copyOf z (a .b) (merged z v d (a .b))) (rw bytes at (c .before .before .before .before .before .before .before .before .before .before .before .before .before .before .make-copy .ensures .0)) (a .b) (a .offset) (a .buffer .now) (rw bytes at (c .before .before .before .show .ensures)))
+    (handed-read (a .allowance) (a .s) d (copyOf z (a .b) (merged z v d (a .b))) (rw (bytes, c .before .before .before .before .before .before .before .before .before .before .before .before .before .before .before .before .before .before .before .whole .ensures) at (c .before .before .before .before .before .before .before .before .before .before .before .before .before .before .make-copy .ensures .0)) (a .b) (a .offset) (a .buffer .now) (rw bytes at (c .before .before .before .show .ensures)))
 
 pub copy-by-spec : {M : Type 1} → statement M
 copy-by-spec =
     tie.close
     (tie.spec
     merged-into-requires
+    whole-requires
     make-copy-requires
     show-requires
     finish-requires

@@ -1,5 +1,4 @@
 use Rattle.model.specs.Recover.{keptRead, keptWrite}
-use Rattle.model.specs.State.{entry}
 use Rattle.model.specs.Image.{pageBlank, blanks}
 use Rattle.lists.proofs.Rows.{count-le}
 use Rattle.image.specs.Chip.{spareOnly}
@@ -14,20 +13,35 @@ back-of-requires c κs = search needs
 blanks-requires : tie.Need-blanks-requires
 blanks-requires c κs = search needs
 
-cast-t11 : tie.Need-cast-t11
+cast-entry : tie.Need-cast-entry
 unfolding blanks
-cast-t11 c =
+cast-entry c =
     let start = c .before .before .before .before in
     let x = start .args in
     omega (arith, c .blanks .ensures, count-le (x .z .p) (pageBlank (x .z) (spareOnly (x .spare .now)) (x .c)), start .pre .0 .limits .p-high)
 
+entry-requires : tie.Need-entry-requires
+entry-requires c κs = search needs
+
+entry-requires-2 : tie.Need-entry-requires-2
+entry-requires-2 c κs = search needs
+
 returns : tie.Need-returns
-unfolding keptWrite entry
-returns c = rw (c .before .if1 .taken, c .before .before .back-of .ensures, c .blanks .ensures)
+unfolding keptWrite
+returns c = rw (c .before .before .if1 .taken, c .entry .ensures, c .before .before .before .back-of .ensures, c .before .blanks .ensures)
 
 returns-2 : tie.Need-returns-2
-unfolding keptRead entry
-returns-2 c = rw (c .if1 .left, c .before .back-of .ensures)
+unfolding keptRead
+returns-2 c = rw (c .before .if1 .left, c .entry2 .ensures, c .before .before .back-of .ensures)
 
 pub place-spec : {M : Type 1} → statement M
-place-spec = tie.close (tie.spec back-of-requires blanks-requires cast-t11 returns returns-2)
+place-spec =
+    tie.close
+    (tie.spec
+    back-of-requires
+    blanks-requires
+    cast-entry
+    entry-requires
+    entry-requires-2
+    returns
+    returns-2)

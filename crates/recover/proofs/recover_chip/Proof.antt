@@ -18,15 +18,18 @@ copy-classes-requires c κs = search needs
 recovered-requires : tie.Need-recovered-requires
 recovered-requires c κs = search needs
 
+whole-requires : tie.Need-whole-requires
+whole-requires c κs = search needs
+
 rescue-requires : tie.Need-rescue-requires
 rescue-requires c κs = search needs
 
 finish-requires : tie.Need-finish-requires
 unfolding sizesOf
 finish-requires c κs =
-    let a = c .before .before .before .before .before .before .before .before .before .before .before .before .before .before .before .before .before .before .before .args in
+    let a = c .before .before .before .before .before .before .before .before .before .before .before .before .before .before .before .before .before .before .before .before .args in
     let d = device (a .flash .now) (a .spare .now) (a .disk .now) in
-    omega (arith, left-within (a .allowance) (recoverCall (a .z)) (a .s) d (recover (a .z) d) (c .before .before .before .before .before .before .rescue .ensures .0))
+    omega (arith, left-within (a .allowance) (recoverCall (a .z)) (a .s) d (recover (a .z) d) (rw (c .before .before .before .before .before .before .before .before .before .before .whole .ensures) at (c .before .before .before .before .before .before .rescue .ensures .0)))
 
 same-length : tie.Need-same-length
 same-length c = search needs
@@ -40,10 +43,10 @@ same-length-3 c = search needs
 returns : tie.Need-returns
 unfolding sizesOf doneAnswer lentBuffer readBuffer
 returns c =
-    let a = c .before .before .before .before .before .before .before .before .before .before .before .before .before .before .before .before .before .before .before .before .args in
+    let a = c .before .before .before .before .before .before .before .before .before .before .before .before .before .before .before .before .before .before .before .before .before .args in
     let d = device (a .flash .now) (a .spare .now) (a .disk .now) in
-    rw (c .finish .ensures, c .before .before .before .before .before .before .before .before .before .before .before .recovered .ensures ∙ same-state (a .z) d)
-    (handed-quiet (a .allowance) (recoverCall (a .z)) (a .s) d (recover (a .z) d) refl refl (c .before .before .before .before .before .before .before .rescue .ensures .0))
+    rw (c .finish .ensures, c .before .before .before .before .before .before .before .before .before .before .before .before .recovered .ensures ∙ same-state (a .z) d)
+    (handed-quiet (a .allowance) (recoverCall (a .z)) (a .s) d (recover (a .z) d) refl refl (rw (c .before .before .before .before .before .before .before .before .before .before .before .whole .ensures) at (c .before .before .before .before .before .before .before .rescue .ensures .0)))
 
 pub recover-chip-spec : {M : Type 1} → statement M
 recover-chip-spec =
@@ -52,6 +55,7 @@ recover-chip-spec =
     write-classes-requires
     copy-classes-requires
     recovered-requires
+    whole-requires
     rescue-requires
     finish-requires
     same-length

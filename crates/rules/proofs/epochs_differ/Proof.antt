@@ -16,10 +16,10 @@ use Rattle.rules.proofs.epochs_differ.Statement.{statement}
 use Rattle.rules.proofs.epochs_differ.Tie as tie
 
 abbrev Inv-loop : tie.InvT-loop
-Inv-loop z spare epochs₀ n₀ end c₀ epochs n c = (c ≤ end) × (n ≤ c) × (length epochs ≡ 256) × (take n epochs ≡ map (epochOf z (spareOnly spare)) (keep (used z (spareOnly spare)) (below c)))
+Inv-loop z spare end epochs₀ n₀ c₀ epochs n c = (c ≤ end) × (n ≤ c) × (length epochs ≡ 256) × (take n epochs ≡ map (epochOf z (spareOnly spare)) (keep (used z (spareOnly spare)) (below c)))
 
 abbrev μ-loop : tie.MeasureT-loop
-μ-loop z spare epochs₀ n₀ end c₀ epochs n c = end - c
+μ-loop z spare end epochs₀ n₀ c₀ epochs n c = end - c
 
 body-requires : tie.Need-body-requires Inv-loop μ-loop
 body-requires c κs = search needs

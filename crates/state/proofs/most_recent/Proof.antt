@@ -25,6 +25,9 @@ returns c = let x = c .before .before .args in
 cache-of-requires : tie.Need-cache-of-requires
 cache-of-requires c κs = search needs
 
+entry-requires : tie.Need-entry-requires
+entry-requires c κs = search needs
+
 without-requires : tie.Need-without-requires
 without-requires c κs = search needs
 
@@ -32,17 +35,17 @@ push-requires : tie.Need-push-requires
 push-requires c κs = search needs
 
 returns-2 : tie.Need-returns-2
-unfolding entry cachesOf
-returns-2 c = let x = c .before .before .before .before .before .args in
+unfolding cachesOf
+returns-2 c = let x = c .before .before .before .before .before .before .args in
     let list = entriesOf (x .queue) in
     let copy = entry (x .b) (cacheOf (x .b) list) 0 ∷ [] in
-    let e : holds (x .b) list ≡ true = sym (c .before .before .before .before .holds .ensures) ∙ not-false _ (c .before .before .before .if1 .left) in
+    let e : holds (x .b) list ≡ true = sym (c .before .before .before .before .before .holds .ensures) ∙ not-false _ (c .before .before .before .before .if1 .left) in
     let n : length (x .queue .items) ≡ 64 = search (needs, length-mapped) in
     let m : length list ≤ 64 = rw length-take (omega arith) in
     let h : length (without (x .b) list ++ copy) ≤ 64 = rw length-append (omega (arith, rw e at (without-length (x .b) list))) in
-    c .push .ensures ∙ rw (c .before .without .ensures, c .before .before .cache-of .ensures, e) (joined-fits 64 (without (x .b) list) copy h)
+    c .push .ensures ∙ rw (c .before .without .ensures, c .before .before .entry .ensures, c .before .before .before .cache-of .ensures, e) (joined-fits 64 (without (x .b) list) copy h)
 
 pub most-recent-spec : {M : Type 1} → statement M
 most-recent-spec =
     tie.close
-    (tie.spec holds-requires returns cache-of-requires without-requires push-requires returns-2)
+    (tie.spec holds-requires returns cache-of-requires entry-requires without-requires push-requires returns-2)

@@ -15,6 +15,9 @@ use Rattle.state.proofs.State.take_copy.Reads as reads
 head-requires : tie.Need-head-requires
 head-requires c κs = search needs
 
+entry-requires : tie.Need-entry-requires
+entry-requires c κs = search needs
+
 with-cache-requires : tie.Need-with-cache-requires
 with-cache-requires c κs = search needs
 
@@ -25,28 +28,29 @@ push-requires : tie.Need-push-requires
 push-requires c κs = search needs
 
 taken-requires : tie.Need-taken-requires
-unfolding takeCopy moved entry taken
-taken-requires c κs = let x = c .before .before .before .before .args in
+unfolding takeCopy moved taken
+taken-requires c κs = let x = c .before .before .before .before .before .args in
     let less = without (x .b) (entriesOf (x .self .reads)) in
     let copy = entry (x .b) (head (listOf (x .self .free))) 0 ∷ [] in
     let f : entriesOf (c .push .result) ≡ less ++ copy =
-    c .push .ensures ∙ rw (c .before .without .ensures, c .before .before .before .head .ensures) (joined-fits 64 less copy (c .before .before .before .before .pre .reads)) in
-    rw (f, c .before .before .with-cache .ensures ∙ joined-fits 256 (listOf (x .self .gc)) _ (gc-fits (c .before .before .before .before .pre))) (c .before .before .before .before .pre)
+    c .push .ensures ∙ rw (c .before .without .ensures, c .before .before .before .entry .ensures, c .before .before .before .before .head .ensures) (joined-fits 64 less copy (c .before .before .before .before .before .pre .reads)) in
+    rw (f, c .before .before .with-cache .ensures ∙ joined-fits 256 (listOf (x .self .gc)) _ (gc-fits (c .before .before .before .before .before .pre))) (c .before .before .before .before .before .pre)
 
 returns : tie.Need-returns
-unfolding takeCopy moved entry taken
-returns c = let x = c .before .before .before .before .before .args in
+unfolding takeCopy moved taken
+returns c = let x = c .before .before .before .before .before .before .args in
     let less = without (x .b) (entriesOf (x .self .reads)) in
     let copy = entry (x .b) (head (listOf (x .self .free))) 0 ∷ [] in
     let f : entriesOf (c .before .push .result) ≡ less ++ copy =
-    c .before .push .ensures ∙ rw (c .before .before .without .ensures, c .before .before .before .before .head .ensures) (joined-fits 64 less copy (c .before .before .before .before .before .pre .reads)) in
-    c .taken .ensures ∙ rw (f, c .before .before .before .with-cache .ensures ∙ joined-fits 256 (listOf (x .self .gc)) _ (gc-fits (c .before .before .before .before .before .pre)))
+    c .before .push .ensures ∙ rw (c .before .before .without .ensures, c .before .before .before .before .entry .ensures, c .before .before .before .before .before .head .ensures) (joined-fits 64 less copy (c .before .before .before .before .before .before .pre .reads)) in
+    c .taken .ensures ∙ rw (f, c .before .before .before .with-cache .ensures ∙ joined-fits 256 (listOf (x .self .gc)) _ (gc-fits (c .before .before .before .before .before .before .pre)))
 
 pub take-copy-spec : {M : Type 1} → statement M
 take-copy-spec =
     tie.close
     (tie.spec
     head-requires
+    entry-requires
     with-cache-requires
     without-requires
     push-requires

@@ -1,12 +1,12 @@
--- `input::line_end` meets its contract.
+-- `lines::line_end` meets its contract.
 use lib.ListN.{length}
 use borrow.Author.Needs.{needs}
 use native.Mathlib.Omega.{arith}
 use Prim.Native.Nat.{_≤_, _-_}
-use Rattle.input.proofs.Pieces.{line-begun, line-more}
-use Rattle.input.specs.Ahead.{OneLine}
-use Rattle.input.proofs.line_end.Statement.{statement}
-use Rattle.input.proofs.line_end.Tie as tie
+use Rattle.lines.proofs.Pieces.{line-begun, line-more}
+use Rattle.lines.specs.Lines.{OneLine}
+use Rattle.lines.proofs.line_end.Statement.{statement}
+use Rattle.lines.proofs.line_end.Tie as tie
 
 abbrev Inv-loop : tie.InvT-loop
 Inv-loop piece from end₀ end = (from ≤ end) × (end ≤ length piece) × OneLine piece from end
