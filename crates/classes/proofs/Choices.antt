@@ -5,7 +5,7 @@ use mathlib.Core.Bool.{Bool, true, not}
 use mathlib.Core.List.{List}
 use lib.ListN.{length, getD}
 use borrow.Author.Tests.{ltb-true, lt-ltb}
-use Rattle.lists.specs.Lists.{all, any, keep, below, member}
+use Rattle.lists.specs.Lists.{any, keep, below, member}
 use Rattle.lists.proofs.Tests.{and-left}
 use Rattle.lists.proofs.Counts.{in-all}
 use Rattle.lists.proofs.Arrays.{take-used}

@@ -1,13 +1,13 @@
 -- What passed tests say of sizes and lent areas, and how large products of sizes are.
-use Prim.Native.Nat.{_+_, _*_, _≤_}
+use Prim.Native.Nat.{_*_, _≤_}
 use mathlib.Core.Path.{_≡_}
 use mathlib.Core.Bool.{true}
 use native.Mathlib.Nat.{mul-le-mul}
 use lib.ListN.{length}
-use borrow.Author.Tests.{leb-true, eqb-true}
-use Rattle.lists.proofs.Tests.{every-at, within-low, within-high}
+use borrow.Author.Tests.{eqb-true}
+use Rattle.lists.proofs.Tests.{every-at}
 use Rattle.model.specs.declared.Sizes.{Sizes}
-use Rattle.model.specs.Sizes.{Device, limits, lengths, flashSize, spareSize, diskSize}
+use Rattle.model.specs.Sizes.{Device, lengths, flashSize, spareSize, diskSize}
 use Rattle.model.specs.Tests.{firstFailed}
 use Rattle.model.specs.Calls.{lentTests}
 use Rattle.model.proofs.Calling.{first-passed}

@@ -1,5 +1,5 @@
 -- Sizes within their limits and areas of their lengths, as facts that contracts ask for.
-use Prim.Native.Nat.{ℕ, _+_, _≤_}
+use Prim.Native.Nat.{ℕ}
 use mathlib.Core.Path.{_≡_}
 use mathlib.Core.List.{List}
 use lib.ListN.{length}

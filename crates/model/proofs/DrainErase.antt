@@ -14,7 +14,7 @@ use Rattle.lists.proofs.Rows.{map-append}
 use Rattle.lists.proofs.Counts.{times-append}
 use Rattle.lists.proofs.Orders.{Pairwise, pairwise-append, pairwise-cut, pairwise-any, times-sort}
 use Rattle.model.specs.declared.Sizes.{Sizes}
-use Rattle.model.specs.Sizes.{Device, body}
+use Rattle.model.specs.Sizes.{Device}
 use Rattle.model.specs.Stores.{Store, erase, diskBytes}
 use Rattle.model.specs.Image.{epochOf, isDirty}
 use Rattle.model.specs.State.{State, holds, cacheOf, caches}

@@ -11,7 +11,7 @@ use Rattle.lists.proofs.Tests.{true-or-false}
 use Rattle.model.specs.declared.Sizes.{Sizes}
 use Rattle.model.specs.declared.Entry.{Entry}
 use Rattle.model.specs.Sizes.{Device, bucketSize}
-use Rattle.model.specs.Stores.{applyAll, unitStores}
+use Rattle.model.specs.Stores.{applyAll}
 use Rattle.model.specs.Spare.{dirtyKind}
 use Rattle.model.specs.State.{State, moved, holds, without}
 use Rattle.model.specs.Steps.{Step, nothing, _then_, move, dropWrite, merged, copy, writeOut, evict}

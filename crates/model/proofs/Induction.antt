@@ -7,7 +7,6 @@ use lib.ListN.{length}
 use lib.Dec.{eqb}
 use Rattle.lists.specs.Lists.{part}
 use Rattle.model.specs.declared.Sizes.{Sizes}
-use Rattle.model.specs.declared.Answer.{Answer}
 use Rattle.model.specs.declared.Answer.the-variants.{Done, Cut, Refused}
 use Rattle.model.specs.Tests.{firstFailed}
 use Rattle.model.specs.Sizes.{Device, limits, lengths}

@@ -9,11 +9,11 @@ use native.Mathlib.Decide.{decLt}
 use lib.ListN.{length}
 use lib.Dec.{ltb}
 use borrow.Author.Tests.{lt-ltb, ltb-true}
-use Rattle.lists.specs.Lists.{if_then_else_, times, ff}
+use Rattle.lists.specs.Lists.{if_then_else_, times}
 use Rattle.lists.proofs.Counts.{times-append}
 use Rattle.model.specs.declared.Sizes.{Sizes}
 use Rattle.model.specs.Sizes.{Device, bucketSize, body}
-use Rattle.model.specs.Stores.{erase, tagOf}
+use Rattle.model.specs.Stores.{erase}
 use Rattle.model.specs.Image.{epochOf, backOf, isWrite, complete}
 use Rattle.model.specs.State.{State, caches, queued}
 use Rattle.model.proofs.Limits.{on-chip}

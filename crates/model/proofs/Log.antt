@@ -2,13 +2,13 @@
 use Prim.Native.Nat.{ℕ, suc, _+_, _-_, _≤_, _<_}
 use mathlib.Core.Path.{_≡_, refl, sym, ap, _∙_, subst}
 use mathlib.Core.Logic.{_⊎_, inl, inr, _≢_}
-use mathlib.Core.Bool.{Bool, true, false, not}
+use mathlib.Core.Bool.{Bool, true, false}
 use mathlib.Core.Option.{none, some}
 use mathlib.Core.List.{List, map}
 use native.Mathlib.Omega.{arith}
 use native.Mathlib.Decide.{ℕ-discrete, decLt, decLe}
 use lib.ListN.{length, take, getD}
-use borrow.Author.Tests.{leb-false, not-true}
+use borrow.Author.Tests.{leb-false}
 use Rattle.lists.specs.Lists.{times, ff, splice}
 use Rattle.lists.proofs.Tests.{and-left}
 use Rattle.lists.proofs.Rows.{length-row}

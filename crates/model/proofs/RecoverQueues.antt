@@ -18,7 +18,7 @@ use Rattle.lists.proofs.Orders.{times-keep, member-in, times-sort, length-sort,
 use Rattle.model.specs.declared.Sizes.{Sizes}
 use Rattle.model.specs.declared.Entry.{Entry}
 use Rattle.model.specs.Sizes.{Device, body}
-use Rattle.model.specs.Spare.{blank, writeKind, kind}
+use Rattle.model.specs.Spare.{writeKind, kind}
 use Rattle.model.specs.Image.{used, epochOf, backOf, isWrite, isCopy, pageBlank, blanks, headTag}
 use Rattle.model.specs.State.{entry, holds, cacheBucket, backBucket, caches, backs}
 use Rattle.model.specs.Recover.{buckets, byEpoch, isNewer, amongNewest, newest, isChosen, isOnly, keptWrites, isDroppedWrite, isRemaining, keptCopies, isDroppedCopy, isOldCopy, isFree, keptRead, keptWrite, recover}

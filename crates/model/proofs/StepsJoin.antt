@@ -12,7 +12,6 @@ use Rattle.model.specs.declared.Sizes.{Sizes}
 use Rattle.model.specs.Sizes.{Device}
 use Rattle.model.specs.Stores.{Store, erase, apply, applyAll, tagOf}
 use Rattle.model.specs.Image.{backOf}
-use Rattle.model.proofs.Limits.{on-chip}
 use Rattle.model.proofs.Views.{SafeAt}
 use Rattle.model.proofs.Retire.{Without, retire-others}
 use Rattle.model.proofs.Erases.{without-gone}
@@ -27,9 +26,6 @@ use Rattle.model.proofs.QueuesErased.{gone}
 module _ (z : Sizes) (p-pos : 1 ≤ z .p) (d : Device) (L : Lengths z d) (x : ℕ) (hx : x < z .c) where
   pub same-left : (c : ℕ) → c ≢ x → Same z d (apply z d (erase x)) c
   same-left c ne = same-erase z d L x hx c ne
-
-  pub erased-first : tagOf z (apply z d (erase x)) x 0 ≡ ff 16
-  erased-first = tag-erased z d L x hx 0 p-pos
 
   pub erased-view : Without (view z d) (view z (apply z d (erase x))) (λ c. 1 ≤ times c (x ∷ []))
   unfolding applyAll

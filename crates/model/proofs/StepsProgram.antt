@@ -18,7 +18,7 @@ use Rattle.model.specs.Image.{isDirty}
 use Rattle.model.specs.State.{State, moved, entry, holds, without}
 use Rattle.model.specs.Steps.{_then_, makeRoom, taken, takeCopy, logStores, fillCopy, copy}
 use Rattle.model.proofs.Views.{Lay, SafeAt, copied, uncopied, lay-disk}
-use Rattle.model.proofs.Limits.{Limits, on-chip}
+use Rattle.model.proofs.Limits.{Limits}
 use Rattle.model.proofs.Safe.{view, plainAt, Safe, Sound, Along}
 use Rattle.model.proofs.Frames.{Lengths, lengths-kept}
 use Rattle.model.proofs.Prefix.{applyAll-append, along-map}

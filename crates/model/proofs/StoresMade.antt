@@ -18,7 +18,7 @@ use Rattle.model.specs.Stores.{applyAll, bucketBytes, unitStore, unitSto
 use Rattle.model.specs.Spare.{readKind, writeKind, dirtyKind}
 use Rattle.model.specs.Image.{epochOf, isDirty, blanks}
 use Rattle.model.specs.State.{State, entry, holds, cacheOf}
-use Rattle.model.specs.Steps.{Plan, Step, nothing, _then_, move, eraseStep, makeRoom, dropWrite, logStore, logStores, merged, fillCopy, copy, writeOut, evict, freed}
+use Rattle.model.specs.Steps.{Step, nothing, _then_, move, eraseStep, makeRoom, dropWrite, logStore, logStores, merged, fillCopy, copy, writeOut, evict, freed}
 use Rattle.model.specs.Operations.{lastEpoch, victim, fits, makeWay, appendLog, startLog, write, dropOldest, read, outgoing, evictAny, withoutOldest}
 use Rattle.model.specs.Calls.{Call, readCall, writeCall, refusal, planOf, carryOut, turnedDown, call}
 use Rattle.model.specs.StoresMade.{FewStores}

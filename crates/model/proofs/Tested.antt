@@ -12,7 +12,7 @@ use Rattle.model.specs.Sizes.{Device, bucketSize, body}
 use Rattle.model.specs.Image.{used, backOf, complete}
 use Rattle.model.specs.State.{State, readAgrees, writeAgrees, stateFits}
 use Rattle.model.specs.Steps.{merged}
-use Rattle.model.proofs.Limits.{Limits, limits-of, on-chip}
+use Rattle.model.proofs.Limits.{Limits, limits-of}
 use Rattle.model.proofs.Frames.{Lengths, lengths-of}
 use Rattle.model.proofs.Formed.{Formed, formed-of}
 use Rattle.model.proofs.BucketKinds.{complete-copy, copy-used, write-used, back-below}

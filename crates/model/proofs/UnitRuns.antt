@@ -8,7 +8,7 @@ use lib.ListN.{length}
 use Rattle.lists.specs.Lists.{times, concatMap}
 use Rattle.lists.proofs.Counts.{times-self, times-other, times-cons}
 use Rattle.model.specs.declared.Sizes.{Sizes}
-use Rattle.model.specs.Sizes.{Device, bucketSize, body}
+use Rattle.model.specs.Sizes.{Device, bucketSize}
 use Rattle.model.specs.Stores.{Store, erase, applyAll, diskBytes, unitStores}
 use Rattle.model.proofs.Safe.{Safe, Chip, Sound, Along, Ready}
 use Rattle.model.proofs.Limits.{Limits}

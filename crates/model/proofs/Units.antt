@@ -12,7 +12,7 @@ use Rattle.lists.specs.Lists.{times, part, splice}
 use Rattle.lists.proofs.Tests.{and-left}
 use Rattle.lists.proofs.Parts.{At, at, outside, inside, getD-part, length-part-fits}
 use Rattle.model.specs.declared.Sizes.{Sizes}
-use Rattle.model.specs.Sizes.{Device, bucketSize, body}
+use Rattle.model.specs.Sizes.{Device, bucketSize}
 use Rattle.model.specs.Stores.{Store, erase, unit, apply, applyAll, diskBytes, unitStore, unitStores}
 use Rattle.model.specs.Image.{used, epochOf, isDirty, isCopy, complete}
 use Rattle.model.proofs.Views.{Newest, SafeAt, safe-still, safe-any-disk}
@@ -37,25 +37,25 @@ module _ (z : Sizes) (bounds : Limits z) (plain : List ℕ) (gs : List ℕ) (gs-
     dirty-copy : (c : ℕ) → (1 ≤ times c gs → ⊥) → holdsOf z d c b ≡ true → isDirty z d c ≡ true
         → ((c' : ℕ) → holdsOf z d c' b ≡ true → epochOf z d c' ≤ epochOf z d c) → Allowed d
 
-  abbrev bytesAt : ℕ → List ℕ
+  abbrev pub bytesAt : ℕ → List ℕ
   bytesAt u = part bytes (u * z .s) (z .s)
 
-  abbrev unitAt : ℕ → Store
+  abbrev pub unitAt : ℕ → Store
   unitAt u = unit (b * z .p + u) (bytesAt u)
 
   length-unit : (u : ℕ) → u < z .p → length (part bytes (u * z .s) (z .s)) ≡ z .s
   unfolding bucketSize
   length-unit u hu = length-part-fits bytes (u * z .s) (z .s) (rw len (row-fits u (z .p) (z .s) hu))
 
-  fits-at : (u : ℕ) → u < z .p → Fits z (unitAt u)
+  pub fits-at : (u : ℕ) → u < z .p → Fits z (unitAt u)
   fits-at u hu = (place-fits b u (z .b) (z .p) hb hu, length-unit u hu)
 
-  -- byte i of b after unit u was written
-  data UnitByte (d : Device) (u i : ℕ) : Type 0 where
+  -- byte i of b after unit u was written: outside the unit as it was, inside it the written one
+  pub data UnitByte (d : Device) (u i : ℕ) : Type 0 where
     left : (i < u * z .s) ⊎ (u * z .s + z .s ≤ i) → getD (diskBytes z (apply z d (unitAt u)) b) i 0 ≡ getD (diskBytes z d b) i 0 → UnitByte d u i
-    written : i < bucketSize z → getD (diskBytes z (apply z d (unitAt u)) b) i 0 ≡ getD bytes i 0 → UnitByte d u i
+    written : (u * z .s ≤ i) × (i < u * z .s + z .s) → i < bucketSize z → getD (diskBytes z (apply z d (unitAt u)) b) i 0 ≡ getD bytes i 0 → UnitByte d u i
 
-  unit-byte : (d : Device) → Lengths z d → (u : ℕ) → u < z .p → (i : ℕ) → UnitByte d u i
+  pub unit-byte : (d : Device) → Lengths z d → (u : ℕ) → u < z .p → (i : ℕ) → UnitByte d u i
   unfolding bucketSize
   unit-byte d lens u hu i = pick (at (diskBytes z d b) (u * z .s) (bytesAt u) (unit-in-bucket z d lens b u (bytesAt u) hb hu (length-unit u hu)) i)
     where
@@ -67,18 +67,18 @@ module _ (z : Sizes) (bounds : Limits z) (plain : List ℕ) (gs : List ℕ) (gs-
       pick (outside (inr a) q) = left (inr (omega (arith, length-unit u hu))) (now ∙ q)
       pick (inside k hk e q) =
           let hk' : k < z .s = omega (arith, length-unit u hu) in
-          written (omega (arith, row-fits u (z .p) (z .s) hu)) (now ∙ q ∙ getD-part bytes (u * z .s) (z .s) k hk' ∙ ap (λ (x : ℕ). getD bytes x 0) (sym e))
+          written (omega arith, omega arith) (omega (arith, row-fits u (z .p) (z .s) hu)) (now ∙ q ∙ getD-part bytes (u * z .s) (z .s) k hk' ∙ ap (λ (x : ℕ). getD bytes x 0) (sym e))
 
   -- ---- one unit keeps what is confirmed
 
   module _ (u : ℕ) (hu : u < z .p) (d : Device) (chip : Chip z d) where
-    abbrev after : Device
+    abbrev pub after : Device
     after = apply z d (unitAt u)
 
-    alike : (c : ℕ) → Same z d after c
+    pub alike : (c : ℕ) → Same z d after c
     alike c = same-unit z d (b * z .p + u) (bytesAt u) c
 
-    elsewhere : (b' i : ℕ) → b' ≢ b → getD (diskBytes z after b') i 0 ≡ getD (diskBytes z d b') i 0
+    pub elsewhere : (b' i : ℕ) → b' ≢ b → getD (diskBytes z after b') i 0 ≡ getD (diskBytes z d b') i 0
     elsewhere b' i ne = ap (λ (l : List ℕ). getD l i 0) (disk-other z d (chip-lengths z chip) b u (bytesAt u) hb hu (length-unit u hu) b' ne)
 
     untouched : (b' : ℕ) → ((i : ℕ) → (getD (diskBytes z after b') i 0 ≡ getD (diskBytes z d b') i 0) ⊎ (getD (diskBytes z after b') i 0 ≡ plainAt z plain b' i))
@@ -96,7 +96,7 @@ module _ (z : Sizes) (bounds : Limits z) (plain : List ℕ) (gs : List ℕ) (gs-
           where
             pick : (i : ℕ) → UnitByte d u i → (getD (diskBytes z after b) i 0 ≡ getD (diskBytes z d b) i 0) ⊎ (getD (diskBytes z after b) i 0 ≡ plainAt z plain b i)
             pick i (left o q) = inl q
-            pick i (written hi q) = inr (q ∙ h i hi)
+            pick i (written in-unit hi q) = inr (q ∙ h i hi)
         go (yes e) (dirty-copy c out held dirty newest) = rw e (safe-any-disk (view z d) (view z after) b (plainAt z plain b)
             (λ c' i. quiet-same z (bounds .p-low) d after c' (alike c') b i) (λ c'. kept-same z (bounds .p-low) d after c' (alike c') b) c held only (s b))
           where
@@ -162,7 +162,7 @@ module _ (z : Sizes) (bounds : Limits z) (plain : List ℕ) (gs : List ℕ) (gs-
   }
     where
       byte : (i : ℕ) → i < suc o * z .s → UnitByte d o i → getD (diskBytes z (apply z d (unitAt o)) b) i 0 ≡ getD bytes i 0
-      byte i hi (written h q) = q
+      byte i hi (written in-unit h q) = q
       byte i hi (left (inl a) q) = q ∙ r .done i a
       byte i hi (left (inr a) q) = absurd (omega arith)
 

@@ -6,7 +6,7 @@ use mathlib.Core.Bool.{Bool, true, false}
 use mathlib.Core.List.{List, [], _∷_}
 use native.Mathlib.Omega.{arith}
 use native.Mathlib.Decide.{ℕ-discrete}
-use lib.ListN.{length, drop, getD}
+use lib.ListN.{length}
 use lib.Dec.{leb}
 use borrow.Author.Tests.{leb-true, leb-false}
 use Rattle.lists.specs.Lists.{if_then_else_, splice}
@@ -16,7 +16,7 @@ use Rattle.model.specs.declared.Entry.{Entry}
 use Rattle.model.specs.Sizes.{Device, limits, pagesFor}
 use Rattle.model.specs.Stores.{applyAll}
 use Rattle.model.specs.Image.{blanks}
-use Rattle.model.specs.State.{State, entry, holds, cacheOf, without}
+use Rattle.model.specs.State.{State, holds, cacheOf, without}
 use Rattle.model.specs.Steps.{nothing, _then_, makeRoom, evict}
 use Rattle.model.specs.Operations.{lastEpoch, goesFirst, leastOf, victim, fits, makeWay, startLog, write, outgoing, evictAny}
 use Rattle.model.specs.Calls.{writeCall, tests, refusal, planOf, isDone}
@@ -26,7 +26,7 @@ use Rattle.model.proofs.Safe.{Inv, Owed, Pays}
 use Rattle.model.proofs.Queues.{Maps, absent, maps-here, holds-there, absent-without, maps-without, cachesOf-one, length-without}
 use Rattle.model.proofs.Inside.{Inside}
 use Rattle.model.proofs.InsideLive.{inside, outside}
-use Rattle.model.proofs.Steps.{Good, nothing-good, then-good, room-good, room-made}
+use Rattle.model.proofs.Steps.{Good, nothing-good, room-good, room-made}
 use Rattle.model.proofs.Evict.{evict-good, evicted}
 use Rattle.model.proofs.Calling.{Range, first-passed, Passed, tests-passed, place-passed}
 use Rattle.model.proofs.WriteAccept.{Moves, then-moves}

@@ -21,7 +21,7 @@ use Rattle.model.specs.State.{State, moved, entry, holds, cacheOf, cache
 use Rattle.model.specs.Steps.{taken}
 use Rattle.model.specs.Operations.{takeWrite, appendLog, startLog}
 use Rattle.model.specs.Promise.{diskPlace}
-use Rattle.model.proofs.Limits.{Limits, pages-fit, on-chip}
+use Rattle.model.proofs.Limits.{Limits, pages-fit}
 use Rattle.model.proofs.Safe.{givesOf}
 use Rattle.model.proofs.Frames.{row-fits}
 use Rattle.model.proofs.Show.{Same, epochOf-same, backOf-same, isWrite-same, gives-same}

@@ -51,7 +51,7 @@ module _ (z : Sizes) where
   unfoldable pub bucketFits : Device → ℕ → Bool
   bucketFits d c = allBelow (z .p) (pageFits d c)
 
-  -- the page that speaks for its bucket
+  -- the spare bytes that speak for their bucket: those of its first page
   unfoldable pub headTag : Device → ℕ → List ℕ
   headTag d c = tagOf z d c 0
 

@@ -28,7 +28,7 @@ limits z = every
 unfoldable pub bucketSize : Sizes → ℕ
 bucketSize z = z .p * z .s
 
--- the cache buckets that stand in queues
+-- the cache buckets that stand in queues: all of the chip
 unfoldable pub body : Sizes → ℕ
 body z = z .c
 

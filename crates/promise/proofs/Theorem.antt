@@ -1,16 +1,15 @@
 -- Demand 3 of structs, from demand 3 of the states that they show.
 use Prim.Native.Nat.{ℕ}
-use mathlib.Core.Path.{_≡_, sym, subst}
+use mathlib.Core.Path.{sym, subst}
 use mathlib.Core.List.{List, [], _∷_}
 use Rattle.model.specs.declared.Sizes.{Sizes}
 use Rattle.model.specs.Sizes.{Device}
 use Rattle.model.specs.State.{State}
-use Rattle.model.specs.Calls.{Call, formatCall, Outcome, call}
+use Rattle.model.specs.Calls.{formatCall, Outcome, call}
 use Rattle.model.specs.Promise.{Item, lentOf, leftOf, feed, Claim, Throughout, Always, AlwaysHolds, Promised, NothingLost}
 use Rattle.model.proofs.Theorem.{nothing-lost}
 use Rattle.state.specs.declared.State.{State as Struct}
 use Rattle.state.specs.View.{viewOf}
-use Rattle.outcome.specs.Handed.{handed}
 use Rattle.outcome.proofs.Ends.{handed-view}
 use Rattle.promise.specs.Structs.{handedOn, AlwaysOfStructs, NothingLostOfStructs}
 

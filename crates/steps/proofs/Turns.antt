@@ -9,7 +9,7 @@ use Rattle.model.specs.State.{State}
 use Rattle.model.specs.Steps.{Step, _then_, nothing, eraseStep, makeRoom}
 use Rattle.meter.specs.Run.{Run, runAll}
 use Rattle.meter.proofs.Runs.{run-append, run-settled}
-use Rattle.steps.specs.Turns.{Progress, after}
+use Rattle.steps.specs.Turns.{after}
 
 -- the state that a step leaves does not depend on the chip and the disk
 abbrev pub Steady : Step → Type 0

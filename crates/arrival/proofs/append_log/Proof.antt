@@ -2,7 +2,6 @@ use Rattle.arrival.proofs.Arrived.{blanks-most, appended-by}
 use Rattle.state.specs.View.{viewOf}
 use Rattle.image.specs.Chip.{spareOnly}
 use Rattle.geometry.proofs.Passed.{products}
-use Rattle.geometry.specs.Geometry.{device}
 use Rattle.model.specs.Image.{blanks}
 use Rattle.model.specs.Sizes.{bucketSize}
 use native.Mathlib.Omega.{arith}

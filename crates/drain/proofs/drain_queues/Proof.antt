@@ -6,32 +6,22 @@ use mathlib.Core.Path.{_∙_}
 use borrow.Author.Needs.{needs}
 use Rattle.drain.proofs.drain_queues.Statement.{statement}
 use Rattle.drain.proofs.drain_queues.Tie as tie
-use Rattle.drain.proofs.drain_queues.Reads as reads
-use Rattle.drain.proofs.drain_queues.Lts as lts
-use Rattle.drain.proofs.write_units.Reads as write-units-reads
-use Rattle.unclean.proofs.drained.Reads as drained-reads
 
--- src/lib.rt:164:9
 drained-requires : tie.Need-drained-requires
 drained-requires c κs = search needs
 
--- src/lib.rt:167:9
 write-units-requires : tie.Need-write-units-requires
 write-units-requires c κs = search needs
 
--- src/lib.rt:152:1
 same-length : tie.Need-same-length
 same-length c = search needs
 
--- src/lib.rt:152:1
 same-length-2 : tie.Need-same-length-2
 same-length-2 c = search needs
 
--- src/lib.rt:152:1
 same-length-3 : tie.Need-same-length-3
 same-length-3 c = search needs
 
--- src/lib.rt:152:1
 returns : tie.Need-returns
 unfolding after
 returns c = let a = c .before .before .before .before .before .before .before .before .before .before .before .before .before .before .before .before .before .args in

@@ -2,25 +2,19 @@ use Rattle.fifo.specs.View.{listOf}
 use Rattle.model.specs.Calls.{doneAnswer}
 use Rattle.lists.proofs.Arrays.{empty-length}
 use borrow.Author.Tests.{eq-eqb, ne-eqb}
-use mathlib.Core.Path.{_≡_, sym, _∙_}
+use mathlib.Core.Path.{sym, _∙_}
 use borrow.Author.Needs.{needs}
 use Rattle.erasestep.proofs.full_answer.Statement.{statement}
 use Rattle.erasestep.proofs.full_answer.Tie as tie
-use Rattle.erasestep.proofs.full_answer.Reads as reads
-use Rattle.erasestep.proofs.full_answer.Lts as lts
-use Rattle.fifo.proofs.Fifo.used.Reads as used-reads
 
--- src/lib.rt:19:9
 used-requires : tie.Need-used-requires
 used-requires c κs = search needs
 
--- src/lib.rt:16:1
 returns : tie.Need-returns
 unfolding doneAnswer
 returns c = let gc = listOf (c .before .before .args .s .gc) in
     rw (empty-length gc, eq-eqb _ _ (sym (c .before .used .ensures .0) ∙ c .if1 .taken))
 
--- src/lib.rt:16:1
 returns-2 : tie.Need-returns-2
 unfolding doneAnswer
 returns-2 c = let gc = listOf (c .before .before .args .s .gc) in

@@ -2,7 +2,6 @@ use mathlib.Core.Path.{refl}
 use Rattle.evict.proofs.Evicted.{dropped-left, evicted-by}
 use Rattle.state.specs.View.{viewOf}
 use Rattle.gather.proofs.Gathered.{sources-of}
-use Rattle.geometry.specs.Geometry.{device}
 use native.Mathlib.Omega.{arith}
 use Rattle.evict.proofs.evict_by.Statement.{statement}
 use Rattle.evict.proofs.evict_by.Tie as tie

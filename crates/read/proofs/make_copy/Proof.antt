@@ -1,6 +1,5 @@
 use Rattle.steps.specs.Turns.{after}
 use mathlib.Core.Path.{sym, _∙_}
-use Rattle.geometry.specs.Geometry.{device}
 use Rattle.state.specs.View.{viewOf}
 use Rattle.read.specs.Reads.{copyOf}
 use Rattle.read.proofs.Copies.{hit-copies, left-dropped, miss-copies, missed}

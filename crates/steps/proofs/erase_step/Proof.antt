@@ -10,60 +10,44 @@ use Rattle.model.specs.Steps.{eraseStep, nothing}
 use Rattle.lists.proofs.Arrays.{empty-length}
 use Rattle.lists.specs.Lists.{empty}
 use borrow.Author.Tests.{eq-eqb, ne-eqb}
-use mathlib.Core.Bool.{true, false}
+use mathlib.Core.Bool.{false}
 use mathlib.Core.Path.{_≡_, sym, _∙_}
 use borrow.Author.Needs.{needs}
 use Rattle.steps.proofs.erase_step.Statement.{statement}
 use Rattle.steps.proofs.erase_step.Tie as tie
-use Rattle.steps.proofs.erase_step.Reads as reads
-use Rattle.steps.proofs.erase_step.Lts as lts
-use Rattle.fifo.proofs.Fifo.head.Reads as head-reads
-use Rattle.fifo.proofs.Fifo.used.Reads as used-reads
-use Rattle.meter.proofs.erase_bucket.Reads as erase-bucket-reads
-use Rattle.state.proofs.State.freed.Reads as freed-reads
 
--- src/lib.rt:31:9
 used-requires : tie.Need-used-requires
 used-requires c κs = search needs
 
--- src/lib.rt:33:9
 returns : tie.Need-returns
 unfolding after eraseStep nothing runAll
 returns c = let gc = listOf (c .before .before .before .before .before .args .s .gc) in
     (rw (empty-length gc, eq-eqb _ _ (sym (c .before .used .ensures .0) ∙ c .if1 .taken)), c .before .before .before .before .before .pre .0)
 
--- src/lib.rt:35:16
 head-requires : tie.Need-head-requires
 head-requires c κs = search needs
 
--- src/lib.rt:35:16
 cast-head : tie.Need-cast-head
 cast-head c = search needs
 
--- src/lib.rt:36:9
 erase-bucket-requires : tie.Need-erase-bucket-requires
 erase-bucket-requires c κs = let s = c .before .before .before .before .before .before .before .before .before .args .s in
     let some : empty (listOf (s .gc)) ≡ false = empty-length (listOf (s .gc)) ∙ ne-eqb _ _ (λ z. c .before .before .before .before .if1 .left (c .before .before .before .before .before .used .ensures .0 ∙ z)) in
     (c .before .before .before .before .before .before .before .before .before .pre .0, rw (c .before .before .before .head .ensures) (on-chip (s .sizes) _ (head-below (body (s .sizes)) (listOf (s .gc)) (c .before .before .before .before .before .before .before .before .before .pre .1 .gc) some)))
 
--- src/lib.rt:37:9
 freed-requires : tie.Need-freed-requires
 freed-requires c κs = let s = c .before .before .before .before .before .before .before .before .before .before .before .before .before .before .before .before .args .s in
     freed-bounded (viewOf s) (c .before .before .before .before .before .before .before .before .before .before .before .before .before .before .before .before .pre .1 .bounded) (empty-length (listOf (s .gc)) ∙ ne-eqb _ _ (λ z. c .before .before .before .before .before .before .before .before .before .before .before .if1 .left (c .before .before .before .before .before .before .before .before .before .before .before .before .used .ensures .0 ∙ z)))
 
--- src/lib.rt:19:1
 same-length : tie.Need-same-length
 same-length c = search needs
 
--- src/lib.rt:19:1
 same-length-2 : tie.Need-same-length-2
 same-length-2 c = search needs
 
--- src/lib.rt:19:1
 same-length-3 : tie.Need-same-length-3
 same-length-3 c = search needs
 
--- src/lib.rt:19:1
 returns-2 : tie.Need-returns-2
 unfolding after eraseStep runAll
 returns-2 c = let gc = listOf (c .before .before .before .before .before .before .before .before .before .before .before .before .before .before .before .before .before .args .s .gc) in

@@ -4,42 +4,31 @@ use Rattle.meter.specs.Run.{runAll}
 use Rattle.model.specs.Steps.{makeRoom, nothing}
 use Rattle.lists.proofs.Arrays.{empty-length}
 use borrow.Author.Tests.{eq-eqb, ne-eqb}
-use mathlib.Core.Path.{_≡_, sym, _∙_}
+use mathlib.Core.Path.{sym, _∙_}
 use borrow.Author.Needs.{needs}
 use Rattle.steps.proofs.make_room.Statement.{statement}
 use Rattle.steps.proofs.make_room.Tie as tie
-use Rattle.steps.proofs.make_room.Reads as reads
-use Rattle.steps.proofs.make_room.Lts as lts
-use Rattle.fifo.proofs.Fifo.used.Reads as used-reads
-use Rattle.steps.proofs.erase_step.Reads as erase-step-reads
 
--- src/lib.rt:54:9
 used-requires : tie.Need-used-requires
 used-requires c κs = search needs
 
--- src/lib.rt:56:9
 erase-step-requires : tie.Need-erase-step-requires
 erase-step-requires c κs = search needs
 
--- src/lib.rt:56:9
 same-length : tie.Need-same-length
 same-length c = search needs
 
--- src/lib.rt:56:9
 same-length-2 : tie.Need-same-length-2
 same-length-2 c = search needs
 
--- src/lib.rt:56:9
 same-length-3 : tie.Need-same-length-3
 same-length-3 c = search needs
 
--- src/lib.rt:56:9
 returns : tie.Need-returns
 unfolding after makeRoom
 returns c = let free = listOf (c .before .before .before .before .before .before .before .before .before .before .before .before .before .before .before .args .s .free) in
     (rw (empty-length free, eq-eqb _ _ (sym (c .before .before .before .before .before .before .before .before .before .before .before .used .ensures .0) ∙ c .before .before .before .before .before .before .before .before .before .before .if1 .taken)) (c .before .before .before .before .before .before .erase-step .ensures .0), c .before .before .before .before .before .before .erase-step .ensures .1)
 
--- src/lib.rt:42:1
 returns-2 : tie.Need-returns-2
 unfolding after makeRoom nothing runAll
 returns-2 c = let free = listOf (c .before .before .before .before .before .args .s .free) in

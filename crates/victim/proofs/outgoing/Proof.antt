@@ -1,44 +1,33 @@
 use Rattle.queue.specs.View.{entriesOf}
 use Rattle.model.specs.Operations.{outgoing}
 use native.Mathlib.Omega.{arith}
-use borrow.Author.Tests.{le-leb, lt-leb, not-false}
+use borrow.Author.Tests.{le-leb, lt-leb}
 use lib.ListN.{length}
-use mathlib.Core.Path.{_≡_, sym, _∙_}
+use mathlib.Core.Path.{sym, _∙_}
 use Prim.Native.Nat.{_≤_, _<_}
 use borrow.Author.Needs.{needs}
 use Rattle.victim.proofs.outgoing.Statement.{statement}
 use Rattle.victim.proofs.outgoing.Tie as tie
-use Rattle.victim.proofs.outgoing.Reads as reads
-use Rattle.victim.proofs.outgoing.Lts as lts
-use Rattle.queue.proofs.Queue.holds.Reads as holds-reads
-use Rattle.queue.proofs.Queue.used.Reads as used-reads
-use Rattle.victim.proofs.victim_of.Reads as victim-of-reads
 
--- src/lib.rt:25:8
 holds-requires : tie.Need-holds-requires
 holds-requires c κs = search needs
 
--- src/lib.rt:26:9
 returns : tie.Need-returns
 unfolding outgoing
 returns c = rw (sym (c .before .holds .ensures) ∙ c .if1 .taken)
 
--- src/lib.rt:28:9
 used-requires : tie.Need-used-requires
 used-requires c κs = search needs
 
--- src/lib.rt:30:13
 victim-of-requires : tie.Need-victim-of-requires
 victim-of-requires c κs = search needs
 
--- src/lib.rt:31:9
 returns-2 : tie.Need-returns-2
 unfolding outgoing
 returns-2 c = let a = c .before .before .before .before .before .before .before .before .args in
     let full : a .s .sizes .w ≤ length (entriesOf (a .s .writes)) = omega (arith, c .before .if2 .taken, c .before .before .before .used .ensures .0) in
     rw (sym (c .before .before .before .before .before .holds .ensures) ∙ c .before .before .before .before .if1 .left, le-leb (a .s .sizes .w) (length (entriesOf (a .s .writes))) full, c .victim-of .ensures)
 
--- src/lib.rt:19:1
 returns-3 : tie.Need-returns-3
 unfolding outgoing
 returns-3 c = let a = c .before .before .before .before .before .before .before .args in

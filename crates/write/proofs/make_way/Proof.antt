@@ -7,48 +7,36 @@ use Rattle.meter.specs.Run.{runAll}
 use Rattle.geometry.specs.Geometry.{device}
 use Rattle.model.specs.Operations.{evictAny, makeWay}
 use Rattle.model.specs.Steps.{nothing}
-use mathlib.Core.Path.{_≡_, sym, _∙_}
+use mathlib.Core.Path.{sym, _∙_}
 use borrow.Author.Needs.{needs}
 use Rattle.write.proofs.make_way.Statement.{statement}
 use Rattle.write.proofs.make_way.Tie as tie
-use Rattle.write.proofs.make_way.Reads as reads
-use Rattle.write.proofs.make_way.Lts as lts
-use Rattle.evict.proofs.evict.Reads as evict-reads
-use Rattle.victim.proofs.outgoing.Reads as outgoing-reads
 
--- src/lib.rt:34:9
 outgoing-requires : tie.Need-outgoing-requires
 outgoing-requires c κs = let p = c .before .before .before .before .pre in
     let orderly = p .1 .ready .orderly in
     (record { limits = orderly .limits; spare-length = p .0 .spare-length }, all-on-chip (c .before .before .before .before .args .s .sizes) _ (orderly .writes))
 
--- src/lib.rt:36:24
 enum-known-out : tie.Need-enum-known-out
 enum-known-out c = search needs
 
--- src/lib.rt:36:30
 evict-requires : tie.Need-evict-requires
 evict-requires c κs = let p = c .before .before .before .before .before .before .before .before .before .before .before .pre in
     let held = outgoing-held _ _ _ _ _ (p .1 .ready .orderly .limits .w-low) (sym (c .before .before .before .before .before .before .outgoing .ensures) ∙ c .before .before .before .before .out .given .1) in
     (p .0, (yields-evicts (p .1) _ held, p .1 .well-formed))
 
--- src/lib.rt:37:27
 enum-told : tie.Need-enum-told
 enum-told c = search needs
 
--- src/lib.rt:21:1
 same-length : tie.Need-same-length
 same-length c = search needs
 
--- src/lib.rt:21:1
 same-length-2 : tie.Need-same-length-2
 same-length-2 c = search needs
 
--- src/lib.rt:21:1
 same-length-3 : tie.Need-same-length-3
 same-length-3 c = search needs
 
--- src/lib.rt:21:1
 returns : tie.Need-returns
 unfolding makeWay evictAny after
 returns c = let a = c .before .before .before .before .before .before .before .before .before .before .before .before .before .before .before .before .before .before .args in
@@ -56,11 +44,9 @@ returns c = let a = c .before .before .before .before .before .before .before .b
     let says = sym (same-outgoing (a .s .sizes) d (a .b) (viewOf (a .s))) ∙ sym (c .before .before .before .before .before .before .before .before .before .before .before .before .before .outgoing .ensures) ∙ c .before .before .before .before .before .before .before .before .before .before .before .out .given .1 in
     (rw says (c .before .before .before .before .before .before .evict .ensures .0), c .before .before .before .before .before .before .evict .ensures .1)
 
--- src/lib.rt:21:1
 same-length-4 : tie.Need-same-length-4
 same-length-4 c = search needs
 
--- src/lib.rt:21:1
 returns-2 : tie.Need-returns-2
 unfolding makeWay evictAny nothing after runAll
 returns-2 c = let a = c .before .before .before .before .before .before .before .args in
