@@ -1,9 +1,12 @@
 //! The proved engine and the plain Rust one, given the same calls in one process.
 //!
-//! `harness rows` prints the rows with what they are. `harness time REPEATS`
-//! times every row and prints `ROW PROVED RUST` in nanoseconds of a call for each
-//! repeat. `harness run ROW proved|rust COUNT` makes one run and times nothing,
-//! for a count of instructions.
+//! `harness rows` prints the rows with what they are and how many passes over the
+//! spare bytes they need. `harness time REPEATS` times every row and prints `ROW
+//! PROVED RUST` in nanoseconds of a call for each repeat. `harness run ROW
+//! proved|rust COUNT` makes one run and times nothing, for a count of instructions.
+//! `harness limit REPEATS` and `harness pass COUNT` do the same for a bare pass.
+
+use std::hint::black_box;
 
 use oracle::device::Lent;
 use oracle::engine;
@@ -125,7 +128,7 @@ const ROWS: [Row; 9] = [
         what: "an image with all 256 in use, most of them superseded",
         work: Work::Recoveries,
         before: 400,
-        count: 50,
+        count: 500,
         ..LARGE
     },
     Row {
@@ -151,6 +154,14 @@ impl Row {
             back_end_buckets: self.back_end_buckets,
             read_limit: 64,
             write_limit: 64,
+        }
+    }
+
+    /// Passes over the spare bytes: each call must look at every page.
+    fn passes(&self) -> u16 {
+        match self.work {
+            Work::Drains => self.spread + 1,
+            Work::Writes | Work::Reads | Work::Recoveries => 1,
         }
     }
 }
@@ -323,10 +334,44 @@ fn time_rows(repeats: usize) {
     for row in &ROWS {
         let mut one = Areas::new(&row.sizes());
         let mut other = Areas::new(&row.sizes());
+        // The first is not counted: it takes its memory from the system page by page.
+        repeat(row, &mut one, &mut other);
         for _ in 0..repeats {
             let (proved, rust) = repeat(row, &mut one, &mut other);
             println!("{}\t{proved:.0}\t{rust:.0}", row.name);
         }
+    }
+}
+
+/// The limit: all spare bytes put together by wide ands, eight pages at a time, and nothing else.
+fn bare_pass(spare: &[u8]) -> [u64; 16] {
+    let (words, _) = spare.as_chunks::<8>();
+    let (eights, _) = words.as_chunks::<16>();
+    let mut all = [u64::MAX; 16];
+    for eight in eights {
+        for (lane, word) in all.iter_mut().zip(eight) {
+            *lane &= u64::from_ne_bytes(*word);
+        }
+    }
+    all
+}
+
+fn bare_passes(count: usize, spare: &[u8]) {
+    for _ in 0..count {
+        black_box(bare_pass(black_box(spare)));
+    }
+}
+
+fn erased_spare() -> Vec<u8> {
+    vec![0xFF; LARGE.sizes().spare_bytes()]
+}
+
+fn time_limit(repeats: usize) {
+    let spare = erased_spare();
+    for _ in 0..repeats {
+        let begin = processor_time();
+        bare_passes(LARGE.count, &spare);
+        println!("{:.0}", (processor_time() - begin) / LARGE.count as f64);
     }
 }
 
@@ -338,14 +383,19 @@ fn run_once(name: &str, engine: &str, count: usize) {
 
 fn main() {
     let words: Vec<String> = std::env::args().skip(1).collect();
+    let number = |word: &str| word.parse().expect("a count");
     match words.iter().map(String::as_str).collect::<Vec<_>>()[..] {
         ["rows"] => ROWS
             .iter()
-            .for_each(|row| println!("{}\t{}", row.name, row.what)),
-        ["time", repeats] => time_rows(repeats.parse().expect("a count")),
+            .for_each(|row| println!("{}\t{}\t{}", row.name, row.what, row.passes())),
+        ["time", repeats] => time_rows(number(repeats)),
         ["run", name, engine @ ("proved" | "rust"), count] => {
-            run_once(name, engine, count.parse().expect("a count"))
+            run_once(name, engine, number(count))
         }
-        _ => panic!("usage: harness rows | time REPEATS | run ROW proved|rust COUNT"),
+        ["limit", repeats] => time_limit(number(repeats)),
+        ["pass", count] => bare_passes(number(count), &erased_spare()),
+        _ => panic!(
+            "usage: harness rows | time REPEATS | run ROW proved|rust COUNT | limit REPEATS | pass COUNT"
+        ),
     }
 }

@@ -6,8 +6,12 @@ import resource
 import statistics
 import subprocess
 
-# Seconds of each repeat on either side, and the instructions of one call or line.
-Row = collections.namedtuple("Row", "name what proved rust proved_count rust_count")
+# Seconds of each repeat on either side, the instructions of one call or line, and the passes over the spare bytes
+# that a call cannot do without (None: not known).
+Row = collections.namedtuple("Row", "name what proved rust proved_count rust_count passes")
+
+# One bare pass over the spare bytes: seconds of each repeat, and its instructions.
+Limit = collections.namedtuple("Limit", "seconds count")
 
 
 def ratio(row):
@@ -18,8 +22,13 @@ def ratio(row):
 def spread(row):
     """The quartiles of the ratios of single repeats: how noisy the row is."""
     ratios = [one / other for one, other in zip(row.proved, row.rust)]
-    low, _, high = statistics.quantiles(ratios, n=4)
+    low, _, high = statistics.quantiles(ratios, n=4) if len(ratios) > 1 else ratios * 3
     return low, high
+
+
+def limit_ratio(row, limit):
+    """What the row's passes alone would take, over what the Rust engine takes; None where they are not known."""
+    return row.passes * statistics.median(limit.seconds) / statistics.median(row.rust) if row.passes else None
 
 
 def count_ratio(row):
@@ -44,8 +53,14 @@ def engine_rows(harness, repeats, count):
     for line in lines_of([harness, "time", str(repeats)]):
         name, proved, rust = line.split("\t")
         times[name].append((float(proved) * 1e-9, float(rust) * 1e-9))
-    return [Row(name, what, *zip(*times[name]), call_instructions(harness, name, "proved", count),
-                call_instructions(harness, name, "rust", count)) for name, what in described]
+    return [Row(name, what, *zip(*times[name]), one_of([harness, "run", name, "proved"], count),
+                one_of([harness, "run", name, "rust"], count), int(passes)) for name, what, passes in described]
+
+
+def limit(harness, repeats, count):
+    """The bare pass, measured like a row."""
+    seconds = [float(line) * 1e-9 for line in lines_of([harness, "limit", str(repeats)])]
+    return Limit(seconds, one_of([harness, "pass"], count))
 
 
 def lines_of(command):
@@ -53,9 +68,9 @@ def lines_of(command):
     return subprocess.run(command, stdout=subprocess.PIPE, check=True, text=True).stdout.splitlines()
 
 
-def call_instructions(harness, name, engine, count):
-    """Instructions of one call: a run less one without the calls."""
-    before, after = (instructions([harness, "run", name, engine, str(n)]) for n in (0, count))
+def one_of(command, count):
+    """Instructions of one call: a run with `count` of them less one with none."""
+    before, after = (instructions([*command, str(n)]) for n in (0, count))
     return (after - before) / count
 
 
@@ -69,7 +84,7 @@ def driving_row(name, what, programs, text, repeats, counted):
         raise SystemExit(f"{name}: the two programs print different bytes")
     times = [[cpu_seconds(program, text) for program in programs] for _ in range(repeats)]
     lines = counted.count(b"\n")
-    return Row(name, what, *zip(*times), *(instructions([program], counted) / lines for program in programs))
+    return Row(name, what, *zip(*times), *(instructions([program], counted) / lines for program in programs), None)
 
 
 def cpu_seconds(program, text):

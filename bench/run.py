@@ -86,21 +86,28 @@ def table(rows, unit, scale):
     return "\n".join(lines) + "\n"
 
 
-def report(engine, driving, options):
+def limit_line(limit):
+    """The limit in words."""
+    return (f"The limit: one bare pass over the spare bytes takes {statistics.median(limit.seconds) * 1e6:.1f} µs, "
+            f"{limit.count:,.0f} instructions.\n")
+
+
+def report(engine, limit, driving, options):
     """The part of the document between its marks."""
     text = (f"Made by `bench/run.py --repeats {options.repeats} --calls {options.calls} --lines {options.lines} "
             f"--seed {options.seed}`.\n\n"
             "### The engine, S 1,024 P 64 C 256 R 64 W 64 (time and instructions of one call)\n\n"
-            + table(engine, "µs", 1e6)
+            + table(engine, "µs", 1e6) + "\n" + limit_line(limit)
             + "\n### The driving program (time of a whole input, instructions of a line)\n\n")
     if driving:
         return text + f"Inputs of {options.lines} lines each.\n\n" + table(driving, "ms", 1e3)
     return text + "Not measured: the program was not there.\n"
 
 
-def write_plot(engine, driving):
+def write_plot(engine, limit, driving):
     """The ratios of all rows as bars."""
-    groups = [(title, [(row.name, measure.ratio(row), *measure.spread(row)) for row in rows])
+    groups = [(title, [(row.name, measure.ratio(row), *measure.spread(row), measure.limit_ratio(row, limit))
+                       for row in rows])
               for title, rows in [("Engine", engine), ("Driving program", driving)] if rows]
     with open(PLOT, "w", encoding="utf-8") as file:
         file.write(chart.chart(groups))
@@ -117,12 +124,13 @@ def main():
     options = parser.parse_args()
     build()
     engine = measure.engine_rows(HARNESS, options.repeats, options.calls)
+    limit = measure.limit(HARNESS, options.repeats, options.calls)
     driving = driving_rows(os.path.abspath(options.program), options) if os.path.exists(options.program) else []
     if not driving:
         print(f"note: {options.program} is not there, so the driving programs are not compared")
-    figures = report(engine, driving, options)
+    figures = report(engine, limit, driving, options)
     document.replace_figures(DOCUMENT, figures)
-    write_plot(engine, driving)
+    write_plot(engine, limit, driving)
     print(figures)
 
 

@@ -1,5 +1,7 @@
-//! The lent chip and disk, and the three kinds of store that change them.
+//! The lent chip and disk, and the three kinds of store that change them: programs
+//! of pages, erases of buckets, writes of disk units.
 
+use crate::merge::Holding;
 use crate::sizes::Sizes;
 use crate::spare::{Kind, Log, Spare, SPARE_BYTES};
 
@@ -18,24 +20,6 @@ impl Lent<'_> {
             && self.spare.len() == sizes.spare_bytes()
             && self.disk.len() == sizes.disk_bytes()
     }
-}
-
-/// One store: done wholly or not made.
-pub enum Store<'b> {
-    /// Program a page, counted over the whole chip; short data is filled up.
-    Program {
-        page: usize,
-        data: &'b [u8],
-        spare: Spare,
-    },
-    Erase {
-        bucket: u16,
-    },
-    /// Write a disk unit, counted over the whole disk.
-    Unit {
-        unit: usize,
-        data: &'b [u8],
-    },
 }
 
 /// The allowance ran short: the next store was not made.
@@ -64,133 +48,113 @@ impl<'a> Device<'a> {
         self.made
     }
 
-    fn store(&mut self, store: Store) -> Result<(), Cut> {
-        if self.made == self.allowance {
-            return Err(Cut);
-        }
-        self.made += 1;
-        self.carry_out(store);
+    /// Grants as many of the next `wanted` stores as the allowance has left; the
+    /// caller makes exactly those, and is cut if they are not all.
+    fn grant(&mut self, wanted: usize) -> (usize, Result<(), Cut>) {
+        let granted = (self.allowance - self.made).min(wanted as u64) as usize;
+        self.made += granted as u64;
+        let outcome = if granted == wanted { Ok(()) } else { Err(Cut) };
+        (granted, outcome)
+    }
+
+    pub fn erase(&mut self, bucket: u8) -> Result<(), Cut> {
+        let (_, outcome) = self.grant(1);
+        outcome?;
+        let spare_bytes = self.sizes.bucket_pages * SPARE_BYTES;
+        self.lent.data[self.sizes.start(bucket)..][..self.sizes.bucket_bytes()].fill(ERASED);
+        self.lent.spare[usize::from(bucket) * spare_bytes..][..spare_bytes].fill(ERASED);
         Ok(())
-    }
-
-    fn carry_out(&mut self, store: Store) {
-        let page_bytes = self.sizes.page_bytes;
-        match store {
-            Store::Program { page, data, spare } => {
-                let whole = &mut self.lent.data[page * page_bytes..][..page_bytes];
-                let (head, fill) = whole.split_at_mut(data.len());
-                head.copy_from_slice(data);
-                fill.fill(ERASED);
-                self.lent.spare[page * SPARE_BYTES..][..SPARE_BYTES]
-                    .copy_from_slice(&spare.bytes());
-            }
-            Store::Erase { bucket } => {
-                let bytes = self.sizes.bucket_bytes();
-                let spare_bytes = self.sizes.bucket_pages * SPARE_BYTES;
-                let bucket = usize::from(bucket);
-                self.lent.data[bucket * bytes..][..bytes].fill(ERASED);
-                self.lent.spare[bucket * spare_bytes..][..spare_bytes].fill(ERASED);
-            }
-            Store::Unit { unit, data } => {
-                self.lent.disk[unit * page_bytes..][..page_bytes].copy_from_slice(data);
-            }
-        }
-    }
-
-    pub fn erase(&mut self, bucket: u16) -> Result<(), Cut> {
-        self.store(Store::Erase { bucket })
     }
 
     /// Programs a log into a bucket whose first `used` pages are taken.
     pub fn program_log(
         &mut self,
-        bucket: u16,
+        bucket: u8,
         used: usize,
         log: &Log,
         data: &[u8],
     ) -> Result<(), Cut> {
+        let (pages, outcome) = self.grant(self.sizes.log_pages(log.length));
         let first_page = usize::from(bucket) * self.sizes.bucket_pages + used;
-        let mut spare = Spare::first_of(log, self.sizes.log_pages(log.length));
-        for (i, data) in data.chunks(self.sizes.page_bytes).enumerate() {
-            self.store(Store::Program {
-                page: first_page + i,
-                data,
-                spare,
-            })?;
-            spare = spare.next();
-        }
-        Ok(())
+        let page_bytes = self.sizes.page_bytes;
+        let room = &mut self.lent.data[first_page * page_bytes..][..pages * page_bytes];
+        let (bytes, fill) = room.split_at_mut(data.len().min(room.len()));
+        bytes.copy_from_slice(&data[..bytes.len()]);
+        fill.fill(ERASED);
+        self.tag(first_page, pages, log);
+        outcome
     }
 
-    /// Programs all pages of a blank bucket as a Read or Dirty copy.
+    /// Programs all pages of a blank bucket as a Read or Dirty copy, straight from
+    /// where the bytes are.
     pub fn program_copy(
         &mut self,
-        bucket: u16,
+        bucket: u8,
         kind: Kind,
         epoch: u32,
-        back_end: u16,
-        bytes: &[u8],
+        from: &Holding,
     ) -> Result<(), Cut> {
+        let (pages, outcome) = self.grant(self.sizes.bucket_pages);
+        let (start, length) = (self.sizes.start(bucket), pages * self.sizes.page_bytes);
+        let Lent { data, spare, disk } = &mut self.lent;
+        match from.copy.map(|copy| self.sizes.start(copy)) {
+            Some(copy) => data.copy_within(copy..copy + length, start),
+            None => {
+                let units = &disk[self.sizes.start(from.back_end)..][..length];
+                data[start..][..length].copy_from_slice(units);
+            }
+        }
+        from.each_piece(&self.sizes, spare, 0..length, |piece| {
+            data.copy_within(piece.from..piece.from + piece.length, start + piece.to);
+        });
         let log = Log {
             kind,
             epoch,
-            back_end,
+            back_end: from.back_end,
             offset: 0,
-            length: bytes.len(),
+            length: self.sizes.bucket_bytes(),
         };
-        self.program_log(bucket, 0, &log, bytes)
+        self.tag(usize::from(bucket) * self.sizes.bucket_pages, pages, &log);
+        outcome
     }
 
-    /// Writes all units of a back-end bucket in rising order.
-    pub fn write_units(&mut self, back_end: u16, bytes: &[u8]) -> Result<(), Cut> {
-        let first_unit = usize::from(back_end) * self.sizes.bucket_pages;
-        for (i, data) in bytes.chunks_exact(self.sizes.page_bytes).enumerate() {
-            self.store(Store::Unit {
-                unit: first_unit + i,
-                data,
-            })?;
-        }
-        Ok(())
-    }
-
-    pub fn bucket(&self, bucket: u16) -> &[u8] {
-        let bytes = self.sizes.bucket_bytes();
-        &self.lent.data[usize::from(bucket) * bytes..][..bytes]
-    }
-
-    /// What a back-end bucket's logs lie over: its copy, or else the disk.
-    pub fn base(&self, back_end: u16, copy: Option<u16>) -> &[u8] {
-        let bytes = self.sizes.bucket_bytes();
-        match copy {
-            Some(bucket) => self.bucket(bucket),
-            None => &self.lent.disk[usize::from(back_end) * bytes..][..bytes],
+    /// Fills the spare areas of the first pages of a log.
+    fn tag(&mut self, first_page: usize, pages: usize, log: &Log) {
+        let mut spare = Spare::first_of(log, self.sizes.log_pages(log.length));
+        let (areas, _) = self.lent.spare.as_chunks_mut();
+        for area in &mut areas[first_page..][..pages] {
+            *area = spare.area();
+            spare = spare.next();
         }
     }
 
-    /// The bytes of a back-end bucket with the Write buckets laid over its base.
-    pub fn merged(&self, back_end: u16, copy: Option<u16>, writes: &[u16]) -> Vec<u8> {
-        let mut bytes = self.base(back_end, copy).to_vec();
-        writes
-            .iter()
-            .for_each(|&bucket| self.lay_logs(bucket, &mut bytes));
-        bytes
+    /// Writes all units of a back-end bucket in rising order. Without a copy their
+    /// bytes are there already, and only the logs are laid over them.
+    pub fn write_units(&mut self, from: &Holding) -> Result<(), Cut> {
+        let (units, outcome) = self.grant(self.sizes.bucket_pages);
+        let length = units * self.sizes.page_bytes;
+        let Lent { data, spare, disk } = &mut self.lent;
+        let disk = &mut disk[self.sizes.start(from.back_end)..][..length];
+        if let Some(copy) = from.copy {
+            disk.copy_from_slice(&data[self.sizes.start(copy)..][..length]);
+        }
+        from.each_piece(&self.sizes, spare, 0..length, |piece| {
+            disk[piece.to..][..piece.length].copy_from_slice(&data[piece.from..][..piece.length]);
+        });
+        outcome
     }
 
-    /// Lays the complete logs of a Write bucket over `bytes`, oldest first.
-    fn lay_logs(&self, bucket: u16, bytes: &mut [u8]) {
-        let pages = self.sizes.bucket_pages;
-        let area =
-            &self.lent.spare[usize::from(bucket) * pages * SPARE_BYTES..][..pages * SPARE_BYTES];
-        let data = self.bucket(bucket);
-        let spares = (0..pages)
-            .map(|p| (p, Spare::at(area, p)))
-            .take_while(|(_, s)| !s.is_blank());
-        for (page, spare) in spares {
-            // Only the last page commits a log; pages of abandoned logs never match.
-            if let Some(back) = spare.completes() {
-                let log = &data[(page - back) * self.sizes.page_bytes..][..spare.length()];
-                bytes[spare.offset()..][..log.len()].copy_from_slice(log);
-            }
-        }
+    /// Reads a part of a back-end bucket; this is no store.
+    pub fn read(&self, from: &Holding, offset: usize, buffer: &mut [u8]) {
+        let Lent { data, spare, disk } = &self.lent;
+        let base = match from.copy {
+            Some(copy) => &data[self.sizes.start(copy)..],
+            None => &disk[self.sizes.start(from.back_end)..],
+        };
+        buffer.copy_from_slice(&base[offset..][..buffer.len()]);
+        let part = offset..offset + buffer.len();
+        from.each_piece(&self.sizes, spare, part, |piece| {
+            buffer[piece.to..][..piece.length].copy_from_slice(&data[piece.from..][..piece.length]);
+        });
     }
 }

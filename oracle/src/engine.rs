@@ -4,9 +4,9 @@
 use crate::device::{Cut, Device, Lent};
 use crate::recover;
 use crate::sizes::Sizes;
-use crate::spare::survey;
 use crate::state::State;
 use crate::steps::Call;
+use crate::survey::Survey;
 
 /// Why a call is turned down; the numbers are document 01's.
 #[derive(Clone, Copy, Debug, PartialEq, Eq)]
@@ -78,7 +78,7 @@ pub fn format(state: State, sizes: Sizes, lent: Lent, allowance: u64) -> Outcome
         return Outcome::refused(refusal, state);
     }
     let mut device = Device::new(sizes, lent, allowance);
-    let erased = (0..sizes.cache_buckets as u16).try_for_each(|bucket| device.erase(bucket));
+    let erased = sizes.buckets().try_for_each(|bucket| device.erase(bucket));
     match erased {
         Ok(()) => Outcome {
             answer: Answer::Done,
@@ -145,11 +145,12 @@ pub fn recover(state: State, sizes: Sizes, lent: Lent, allowance: u64) -> Outcom
     if let Err(refusal) = check_lent(&sizes, &lent) {
         return Outcome::refused(refusal, state);
     }
-    let Some(looks) = survey(&sizes, lent.spare) else {
+    let mut survey = Survey::blank();
+    if !survey.look_over(&sizes, lent.spare) {
         return Outcome::refused(Refusal::Image, state);
-    };
+    }
     let mut device = Device::new(sizes, lent, allowance);
-    match recover::recover(sizes, &looks, &mut device) {
+    match recover::recover(sizes, &survey, &mut device) {
         Ok(state) => Outcome {
             answer: Answer::Done,
             stores: device.stores_made(),
@@ -214,8 +215,16 @@ fn check_lent(sizes: &Sizes, lent: &Lent) -> Result<(), Refusal> {
     require(lent.fits(sizes), Refusal::Buffers)
 }
 
-/// Runs one of the four operations that need a running state: first every
-/// refusal in its order, then the operation, on a state that a cut throws away.
+/// The refusals of the four operations that need a running state, up to number 5.
+fn check_running(state: &State, lent: &Lent, survey: &mut Survey) -> Result<(), Refusal> {
+    check_lent(&state.sizes, lent)?;
+    require(state.running, Refusal::NotRunning)?;
+    require(survey.look_over(&state.sizes, lent.spare), Refusal::Image)?;
+    require(state.fits(survey), Refusal::State)
+}
+
+/// Runs one of those four: first every refusal in its order, then the operation,
+/// on a state that a cut throws away.
 fn run(
     state: State,
     lent: Lent,
@@ -223,22 +232,15 @@ fn run(
     check: impl FnOnce(&State) -> Result<(), Refusal>,
     operation: impl FnOnce(&mut Call) -> Result<Answer, Cut>,
 ) -> Outcome {
-    let checked = check_lent(&state.sizes, &lent).and_then(|()| {
-        require(state.running, Refusal::NotRunning)?;
-        let looks = survey(&state.sizes, lent.spare).ok_or(Refusal::Image)?;
-        require(state.fits(&looks), Refusal::State)?;
-        check(&state)?;
-        Ok(looks)
-    });
-    let looks = match checked {
-        Ok(looks) => looks,
-        Err(refusal) => return Outcome::refused(refusal, state),
-    };
-    let device = Device::new(state.sizes, lent, allowance);
+    let mut survey = Survey::blank();
+    let checked = check_running(&state, &lent, &mut survey).and_then(|()| check(&state));
+    if let Err(refusal) = checked {
+        return Outcome::refused(refusal, state);
+    }
     let mut call = Call {
         state: state.clone(),
-        device,
-        looks,
+        device: Device::new(state.sizes, lent, allowance),
+        survey: &survey,
     };
     match operation(&mut call) {
         Ok(answer) => Outcome {

@@ -1,142 +1,161 @@
 //! Recovery: what the chip alone says of the queues.
 
 use crate::device::{Cut, Device};
-use crate::sizes::Sizes;
-use crate::spare::{Kind, Look};
+use crate::merge::Holding;
+use crate::order::{lowest_of_newest, Orders};
+use crate::sizes::{Sizes, MOST_BUCKETS};
+use crate::spare::Kind;
 use crate::state::{ReadEntry, State, WriteEntry};
-
-/// What the chip holds of one back-end bucket.
-struct Holding<'b> {
-    back_end: u16,
-    copy: Option<u16>,
-    /// By rising epoch.
-    writes: &'b [u16],
-}
+use crate::survey::Survey;
 
 /// Rebuilds the state from a well-formed image, settling on the disk what the
 /// queues have no room for.
-pub fn recover(sizes: Sizes, looks: &[Look], device: &mut Device) -> Result<State, Cut> {
-    let by_back_end = sorted_buckets(looks);
-    let mut stale = Vec::new();
-    let holdings: Vec<Holding> = by_back_end
-        .chunk_by(|&a, &b| look(looks, a).back_end == look(looks, b).back_end)
-        .map(|buckets| holding(&sizes, looks, buckets, &mut stale))
-        .collect();
+pub fn recover(sizes: Sizes, survey: &Survey, device: &mut Device) -> Result<State, Cut> {
+    let plan = Plan::new(sizes, survey);
+    plan.settle(device)?;
+    Ok(plan.state())
+}
 
-    let single = holdings
-        .iter()
-        .filter(|h| h.writes.len() == 1)
-        .map(|h| h.writes[0]);
-    let kept_writes = newest(looks, single.collect(), sizes.write_limit);
-    let settled = |h: &Holding| match h.writes {
-        [] => false,
-        [only] => !kept_writes.contains(only),
-        _ => true,
-    };
-    let remaining = holdings
-        .iter()
-        .filter(|h| !settled(h))
-        .filter_map(|h| h.copy);
-    let kept_copies = newest(looks, remaining.collect(), sizes.read_limit);
+/// What becomes of an occupied bucket.
+#[derive(Clone, Copy, PartialEq, Eq)]
+enum Fate {
+    /// A superseded or an incomplete copy.
+    Stale,
+    DroppedCopy,
+    DroppedWrite,
+    KeptCopy,
+    KeptWrite,
+}
 
-    let mut dropped_copies = Vec::new();
-    let mut dropped_writes = Vec::new();
-    for h in &holdings {
-        let dropped_copy = h.copy.filter(|copy| !kept_copies.contains(copy));
-        if settled(h) {
-            let bytes = device.merged(h.back_end, h.copy, h.writes);
-            device.write_units(h.back_end, &bytes)?;
-            dropped_writes.extend_from_slice(h.writes);
-        } else if let Some(copy) =
-            dropped_copy.filter(|&copy| look(looks, copy).kind == Kind::Dirty)
-        {
-            let bytes = device.bucket(copy).to_vec();
-            device.write_units(h.back_end, &bytes)?;
+struct Plan<'s> {
+    sizes: Sizes,
+    survey: &'s Survey,
+    orders: Orders,
+    /// The lowest epoch of the Write buckets that are kept.
+    writes_from: u32,
+    /// The lowest epoch of the copies that are kept.
+    copies_from: u32,
+}
+
+impl<'s> Plan<'s> {
+    fn new(sizes: Sizes, survey: &'s Survey) -> Plan<'s> {
+        let mut plan = Plan {
+            sizes,
+            survey,
+            orders: Orders::new(&sizes, survey),
+            writes_from: 0,
+            copies_from: 0,
+        };
+        let single_writes = plan.holdings().filter_map(|h| match h.writes {
+            [only] => Some(survey[*only].epoch),
+            _ => None,
+        });
+        plan.writes_from = lowest_of_newest(single_writes, sizes.write_limit);
+        let remaining = plan.holdings().filter(|h| !plan.drops_writes(h));
+        let copies = remaining.filter_map(|h| Some(survey[h.copy?].epoch));
+        plan.copies_from = lowest_of_newest(copies, sizes.read_limit);
+        plan
+    }
+
+    /// What the chip holds of each back-end bucket, rising.
+    fn holdings(&self) -> impl Iterator<Item = Holding<'_>> {
+        let same = |&a: &u8, &b: &u8| self.survey[a].back_end == self.survey[b].back_end;
+        let runs = self.orders.by_back_end.chunk_by(same);
+        runs.map(|run| self.holding(run))
+    }
+
+    /// The newest complete copy and the Write buckets of one back-end bucket.
+    fn holding<'b>(&self, run: &'b [u8]) -> Holding<'b> {
+        let is_copy = |&bucket: &u8| self.survey[bucket].kind.is_copy();
+        let is_complete = |&bucket: &u8| self.survey[bucket].is_complete(&self.sizes);
+        let (copies, writes) = run.split_at(run.partition_point(is_copy));
+        Holding {
+            back_end: self.survey[run[0]].back_end,
+            copy: copies.iter().copied().rev().find(is_complete),
+            writes,
         }
-        dropped_copies.extend(dropped_copy);
     }
 
-    // Copies before Write buckets: an old copy must never outlive newer logs.
-    let mut gc = Vec::with_capacity(looks.len());
-    for mut group in [stale, dropped_copies, dropped_writes] {
-        sort_by_epoch(looks, &mut group);
-        gc.append(&mut group);
+    /// Whether the Write buckets are dropped, and the copy with them.
+    fn drops_writes(&self, holding: &Holding) -> bool {
+        match holding.writes {
+            [] => false,
+            [only] => self.survey[*only].epoch < self.writes_from,
+            _ => true,
+        }
     }
-    Ok(rebuilt(sizes, looks, &kept_copies, &kept_writes, gc))
-}
 
-fn look(looks: &[Look], bucket: u16) -> &Look {
-    &looks[usize::from(bucket)]
-}
-
-fn sort_by_epoch(looks: &[Look], buckets: &mut [u16]) {
-    buckets.sort_unstable_by_key(|&b| look(looks, b).epoch);
-}
-
-/// The non-blank buckets by back-end bucket, copies before Write buckets, by epoch.
-fn sorted_buckets(looks: &[Look]) -> Vec<u16> {
-    let mut buckets: Vec<u16> = (0..looks.len() as u16)
-        .filter(|&b| look(looks, b).used > 0)
-        .collect();
-    buckets.sort_unstable_by_key(|&b| {
-        let l = look(looks, b);
-        (l.back_end, l.kind == Kind::Write, l.epoch)
-    });
-    buckets
-}
-
-/// Tells the copy and the Write buckets of one back-end bucket apart; superseded
-/// and incomplete copies go to `stale`.
-fn holding<'b>(
-    sizes: &Sizes,
-    looks: &[Look],
-    buckets: &'b [u16],
-    stale: &mut Vec<u16>,
-) -> Holding<'b> {
-    let first_write = buckets.partition_point(|&b| look(looks, b).kind != Kind::Write);
-    let (copies, writes) = buckets.split_at(first_write);
-    let copy = copies
-        .iter()
-        .rev()
-        .copied()
-        .find(|&b| look(looks, b).is_complete(sizes));
-    stale.extend(copies.iter().filter(|&&b| Some(b) != copy));
-    Holding {
-        back_end: look(looks, buckets[0]).back_end,
-        copy,
-        writes,
+    /// The copy, if it is dropped by itself.
+    fn dropped_copy(&self, holding: &Holding) -> Option<u8> {
+        let is_older = |&copy: &u8| self.survey[copy].epoch < self.copies_from;
+        holding.copy.filter(is_older)
     }
-}
 
-/// The `limit` newest of the buckets, by rising epoch.
-fn newest(looks: &[Look], mut buckets: Vec<u16>, limit: usize) -> Vec<u16> {
-    sort_by_epoch(looks, &mut buckets);
-    buckets.split_off(buckets.len().saturating_sub(limit))
-}
+    /// Writes to the disk what is dropped and not there yet.
+    fn settle(&self, device: &mut Device) -> Result<(), Cut> {
+        let is_dirty = |&copy: &u8| self.survey[copy].kind == Kind::Dirty;
+        for holding in self.holdings() {
+            if self.drops_writes(&holding) {
+                device.write_units(&holding)?;
+            } else if let Some(copy) = self.dropped_copy(&holding).filter(is_dirty) {
+                device.write_units(&Holding::copy_alone(holding.back_end, copy))?;
+            }
+        }
+        Ok(())
+    }
 
-fn rebuilt(sizes: Sizes, looks: &[Look], copies: &[u16], writes: &[u16], gc: Vec<u16>) -> State {
-    let read_entry = |&bucket: &u16| ReadEntry {
-        back_end: look(looks, bucket).back_end,
-        bucket,
-    };
-    let write_entry = |&bucket: &u16| {
-        let l = look(looks, bucket);
+    fn fates(&self) -> [Fate; MOST_BUCKETS] {
+        let mut fates = [Fate::Stale; MOST_BUCKETS];
+        for holding in self.holdings() {
+            let (copy_fate, write_fate) = if self.drops_writes(&holding) {
+                (Fate::DroppedCopy, Fate::DroppedWrite)
+            } else if self.dropped_copy(&holding).is_some() {
+                (Fate::DroppedCopy, Fate::KeptWrite)
+            } else {
+                (Fate::KeptCopy, Fate::KeptWrite)
+            };
+            if let Some(copy) = holding.copy {
+                fates[usize::from(copy)] = copy_fate;
+            }
+            for &write in holding.writes {
+                fates[usize::from(write)] = write_fate;
+            }
+        }
+        fates
+    }
+
+    fn state(&self) -> State {
+        let fates = self.fates();
+        let with = |fate: Fate| {
+            let buckets = self.orders.by_epoch.iter().copied();
+            buckets.filter(move |&bucket| fates[usize::from(bucket)] == fate)
+        };
+        // Copies before Write buckets: an old copy must never outlive newer logs.
+        let gc = [Fate::Stale, Fate::DroppedCopy, Fate::DroppedWrite];
+        let is_blank = |&bucket: &u8| self.survey[bucket].is_blank();
+        State {
+            sizes: self.sizes,
+            running: true,
+            reads: with(Fate::KeptCopy).map(|b| self.read_entry(b)).collect(),
+            writes: with(Fate::KeptWrite).map(|b| self.write_entry(b)).collect(),
+            gc: gc.into_iter().flat_map(with).collect(),
+            free: self.sizes.buckets().filter(is_blank).collect(),
+            write_count: 0,
+            next_epoch: self.survey.next_epoch,
+        }
+    }
+
+    fn read_entry(&self, bucket: u8) -> ReadEntry {
+        let back_end = self.survey[bucket].back_end;
+        ReadEntry { back_end, bucket }
+    }
+
+    fn write_entry(&self, bucket: u8) -> WriteEntry {
+        let look = &self.survey[bucket];
         WriteEntry {
-            back_end: l.back_end,
+            back_end: look.back_end,
             bucket,
-            priority: (sizes.bucket_pages - l.used) as u8,
+            priority: self.sizes.bucket_pages as u8 - look.used,
         }
-    };
-    State {
-        sizes,
-        running: true,
-        reads: copies.iter().map(read_entry).collect(),
-        writes: writes.iter().map(write_entry).collect(),
-        gc: gc.into(),
-        free: (0..looks.len() as u16)
-            .filter(|&b| look(looks, b).used == 0)
-            .collect(),
-        write_count: 0,
-        next_epoch: looks.iter().map(|l| u64::from(l.epoch)).max().unwrap_or(0) + 1,
     }
 }

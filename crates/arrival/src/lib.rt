@@ -24,10 +24,11 @@ pub fn fits(s: State, b: u16, n: usize, spare: &[u8]) -> bool
     requires { ⌜ (cacheOf b (entriesOf (s .writes)) < s .sizes .c) × (n ≤ 65536) ⌝ }
     ensures { λ r. ⌜ r ≡ fits (s .sizes) (spareOnly (now (spare .entry))) b (pagesFor (s .sizes) n) (viewOf s) ⌝ }
 {
-    if !s.writes.holds(b) {
+    let logs = s.writes.find(b);
+    if !logs.held {
         return false;
     }
-    let bucket = s.writes.cache_of(b) as usize;
+    let bucket = logs.cache as usize;
     let pages = geometry::pages_for(s.sizes, n);
     pages <= image::blanks(s.sizes, bucket, spare)
 }

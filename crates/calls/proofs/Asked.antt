@@ -22,6 +22,7 @@ use Rattle.frame.specs.declared.Request.{Request}
 use Rattle.frame.specs.declared.Request.the-variants.{Bad, Format, Read, Write, Erase, Drain, Recover}
 use Rattle.frame.specs.Request.{readFrom, writeFrom, frameRequest, requestOf}
 use Rattle.frame.proofs.Fits.{fits-digits}
+use Rattle.calls.specs.Arrays.{seen}
 use Rattle.frame.proofs.Meaning.{callFrom, allowanceOf, isBad, frame-call, frame-allowance, line-bad, line-asks}
 
 -- the fields that are two bytes wide
@@ -76,6 +77,6 @@ module _ (line : List ℕ) {q : Request} (fits : lineFits line ≡ true) (e : q 
 
   -- what an entry hands back of the request's call is what the line's call gives
   pub asked-made : (z : Sizes) (s : State) (d : Device) {n : ℕ} {h : Handed} → n ≡ length (lentBuffer (callFrom z (drop 7 (bytesOf line)) q))
-      → h ≡ handed s (call (allowanceOf q) (callFrom z (drop 7 (bytesOf line)) q) (viewOf s) d)
-      → (h ≡ handed s (call (allowance (bytesOf line)) (callOf z (bytesOf line)) (viewOf s) d)) × (n ≡ length (lentBuffer (callOf z (bytesOf line))))
+      → h ≡ seen (handed s (call (allowanceOf q) (callFrom z (drop 7 (bytesOf line)) q) (viewOf s) d))
+      → (h ≡ seen (handed s (call (allowance (bytesOf line)) (callOf z (bytesOf line)) (viewOf s) d))) × (n ≡ length (lentBuffer (callOf z (bytesOf line))))
   asked-made z s d l m = (m ∙ rw (asked-call z, asked-allowance), l ∙ rw (asked-call z))

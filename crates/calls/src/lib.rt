@@ -14,7 +14,7 @@ ghost use Rattle.geometry.specs.Geometry.{device};
 ghost use Rattle.state.specs.View.{viewOf};
 ghost use Rattle.outcome.specs.Handed.{handedBack, handed};
 ghost use Rattle.frame.specs.Request.{requestOf};
-ghost use Rattle.calls.specs.Arrays.{Arrays, Held, inArrays};
+ghost use Rattle.calls.specs.Arrays.{Arrays, Held, inArrays, seen};
 
 // What the entry handed back, and how many bytes of the lent buffer are the call's own.
 pub struct Made {
@@ -29,25 +29,7 @@ fn unread(outcome: Outcome) -> Made
     Made { outcome, read: 0 }
 }
 
-// A read into a buffer as long as the bytes asked for, zeros at first.
-fn read_bytes(
-    s: State,
-    allowance: usize,
-    bucket: usize,
-    offset: usize,
-    buffer: &mut [u8],
-    flash: &mut [u8],
-    spare: &mut [u8],
-    disk: &mut [u8],
-) -> Outcome
-    requires { ⌜ bucket < 65536 ⌝ }
-    ensures { λ r. ⌜ handedBack (device (now (flash .exit)) (now (spare .exit)) (now (disk .exit))) (now (buffer .exit)) r ≡ handed s (call allowance (readCall bucket offset (replicate (length (now (buffer .entry))) 0)) (viewOf s) (device (now (flash .entry)) (now (spare .entry)) (now (disk .entry)))) ⌝ }
-{
-    area::fill(buffer, 0);
-    let back = bucket as u16;
-    read::read(s, back, offset, buffer, allowance, flash, spare, disk)
-}
-
+// A read into a part as long as the bytes asked for. What stands there before counts with no answer, so nothing clears it.
 fn read_call(
     s: State,
     allowance: usize,
@@ -60,11 +42,12 @@ fn read_call(
     disk: &mut [u8],
 ) -> Made
     requires { ⌜ (bucket < 65536) × (count ≤ length (now buffer)) ⌝ }
-    ensures { λ r. ⌜ handedBack (device (now (flash .exit)) (now (spare .exit)) (now (disk .exit))) (take (r .read) (now (buffer .exit))) (r .outcome) ≡ handed s (call allowance (readCall bucket offset (replicate count 0)) (viewOf s) (device (now (flash .entry)) (now (spare .entry)) (now (disk .entry)))) ⌝ }
+    ensures { λ r. ⌜ seen (handedBack (device (now (flash .exit)) (now (spare .exit)) (now (disk .exit))) (take (r .read) (now (buffer .exit))) (r .outcome)) ≡ seen (handed s (call allowance (readCall bucket offset (replicate count 0)) (viewOf s) (device (now (flash .entry)) (now (spare .entry)) (now (disk .entry))))) ⌝ }
     ensures { λ r. ⌜ r .read ≡ count ⌝ }
 {
+    let back = bucket as u16;
     let part = &mut buffer[..count];
-    let outcome = read_bytes(s, allowance, bucket, offset, part, flash, spare, disk);
+    let outcome = read::read(s, back, offset, part, allowance, flash, spare, disk);
     Made {
         outcome,
         read: count,
@@ -134,7 +117,7 @@ fn make(
 ) -> Made
     requires { ⌜ (lineFits (now line) ≡ true) × (request ≡ requestOf (now line)) ⌝ }
     requires { ⌜ 65535 ≤ length (now buffer) ⌝ }
-    ensures { λ r. ⌜ handedBack (device (now (flash .exit)) (now (spare .exit)) (now (disk .exit))) (take (r .read) (now (buffer .exit))) (r .outcome) ≡ handed s (call (allowance (bytesOf (now (line .entry)))) (callOf z (bytesOf (now (line .entry)))) (viewOf s) (device (now (flash .entry)) (now (spare .entry)) (now (disk .entry)))) ⌝ }
+    ensures { λ r. ⌜ seen (handedBack (device (now (flash .exit)) (now (spare .exit)) (now (disk .exit))) (take (r .read) (now (buffer .exit))) (r .outcome)) ≡ seen (handed s (call (allowance (bytesOf (now (line .entry)))) (callOf z (bytesOf (now (line .entry)))) (viewOf s) (device (now (flash .entry)) (now (spare .entry)) (now (disk .entry))))) ⌝ }
     ensures { λ r. ⌜ r .read ≡ length (lentBuffer (callOf z (bytesOf (now (line .entry))))) ⌝ }
 {
     match request {
@@ -201,7 +184,7 @@ pub fn make_in_arrays(
     requires { ⌜ (lineFits (now line) ≡ true) × (request ≡ requestOf (now line)) ⌝ }
     requires { ⌜ 65535 ≤ length (now buffer) ⌝ }
     requires { ⌜ Arrays (now flash) (now spare) (now disk) × Held z ⌝ }
-    ensures { λ r. ⌜ handedBack (device (now (flash .exit)) (now (spare .exit)) (now (disk .exit))) (take (r .read) (now (buffer .exit))) (r .outcome) ≡ inArrays z (device (now (flash .entry)) (now (spare .entry)) (now (disk .entry))) (handed s (call (allowance (bytesOf (now (line .entry)))) (callOf z (bytesOf (now (line .entry)))) (viewOf s) (lend z (device (now (flash .entry)) (now (spare .entry)) (now (disk .entry)))))) ⌝ }
+    ensures { λ r. ⌜ seen (handedBack (device (now (flash .exit)) (now (spare .exit)) (now (disk .exit))) (take (r .read) (now (buffer .exit))) (r .outcome)) ≡ seen (inArrays z (device (now (flash .entry)) (now (spare .entry)) (now (disk .entry))) (handed s (call (allowance (bytesOf (now (line .entry)))) (callOf z (bytesOf (now (line .entry)))) (viewOf s) (lend z (device (now (flash .entry)) (now (spare .entry)) (now (disk .entry))))))) ⌝ }
     ensures { λ r. ⌜ r .read ≡ length (lentBuffer (callOf z (bytesOf (now (line .entry))))) ⌝ }
 {
     let bucket = z.p * z.s;

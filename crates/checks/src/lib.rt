@@ -27,14 +27,16 @@ pub fn image_refusal(z: Sizes, flash: &[u8], spare: &[u8], disk: &[u8]) -> u8
 pub fn running_refusal(s: State, flash: &[u8], spare: &[u8], disk: &[u8]) -> u8
     ensures { λ r. ⌜ r ≡ firstFailed (runningTests (viewOf s) (device (now (flash .entry)) (now (spare .entry)) (now (disk .entry)))) ⌝ }
 {
-    let number = geometry::lent_refusal(s.sizes, flash, spare, disk);
+    // to hand on `s.sizes` itself would keep a copy of the whole state
+    let z = s.sizes;
+    let number = geometry::lent_refusal(z, flash, spare, disk);
     if number != 0 {
         return number;
     }
     if !s.running {
         return 3;
     }
-    if !rules::well_formed(s.sizes, spare) {
+    if !rules::well_formed(z, spare) {
         return 4;
     }
     if fits::state_fits(s, spare) { 0 } else { 5 }

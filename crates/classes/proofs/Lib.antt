@@ -1,2 +1,3 @@
-pub mod Selections
-pub mod Choices
+pub mod Orders
+pub mod Columns
+pub mod Turns

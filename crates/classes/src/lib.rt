@@ -1,219 +1,55 @@
-// The cache buckets by what recovery makes of them: copies and Write buckets, kept and dropped.
-// Lists of buckets are queues by value. As in `image`, facts are those of the spare area alone.
+// The cache buckets by what recovery makes of them.
+// The used buckets stand in one order, by epoch. A column beside it holds the back-end bucket of each bucket that is such, and NOWHERE for
+// the others; each list of recovery is a selection of the order.
 use fifo::Fifo;
 use model::Sizes;
 ghost use mathlib.Core.Path.{_≡_};
-ghost use Prim.Native.Nat.{_<_};
+ghost use mathlib.Core.Bool.{true};
+ghost use mathlib.Core.List.{map};
+ghost use Prim.Native.Nat.{_≤_, _<_};
 ghost use lib.ListN.{length};
-ghost use Rattle.lists.specs.Lists.{keep};
-ghost use Rattle.model.specs.Recover.{buckets, givesWay, isChosen, isNoOther, isOnly, isDroppedWrite};
+ghost use Rattle.lists.specs.Lists.{if_then_else_, times};
+ghost use Rattle.model.specs.Sizes.{body};
+ghost use Rattle.model.specs.Image.{isWrite, isCopy, wellFormed};
+ghost use Rattle.model.specs.Recover.{buckets, isChosen, isDroppedWrite, isDroppedCopy, isOldCopy};
 ghost use Rattle.fifo.specs.View.{listOf};
 ghost use Rattle.image.specs.Chip.{Chip, spareOnly};
-ghost use Rattle.classes.specs.Classes.{Within, isKind, isKept, WriteLists, CopyLists};
+ghost use Rattle.classes.specs.Columns.{nowhere, inOrder, isUsed, isKind, named, column, soleIn, absentFrom, lastOfEach, isNamed, allBut};
+
+// No back-end bucket: no B is above it.
+pub const NOWHERE: u16 = 65535;
 
 // What a bucket may be, by itself.
 pub enum Kind {
-    Blank,
     Write,
+    // a Read or Dirty bucket
     Copy,
-    Dirty,
-    // the copy of its back-end bucket
-    Chosen,
-    // the only Write bucket of its back-end bucket
-    Only,
-    // of this back-end bucket
-    Of(u16),
-    // of a later epoch than this
-    Newer(u32),
-    // this bucket
-    Same(usize),
+    // such a bucket with all its pages
+    Complete,
 }
 
-// What a bucket is selected by, beside a list of buckets.
-pub enum Rule {
-    Being(Kind),
-    // not in the list
-    Absent,
-    // of a back-end bucket that no bucket of the list is of
-    Unmatched,
-    // fewer than this many of the list are newer
-    Newest(usize),
-}
-
-// The Write buckets.
-pub struct WriteClasses {
-    pub all: Fifo,
-    pub kept: Fifo,
-    pub dropped: Fifo,
-}
-
-// The Read and Dirty buckets. A dropped copy is unsaved if it is Dirty.
-pub struct CopyClasses {
-    pub chosen: Fifo,
-    pub kept: Fifo,
-    pub dropped: Fifo,
-    pub unsaved: Fifo,
-    pub old: Fifo,
-}
-
-// Whether e is no complete copy of c's back-end bucket that is newer than c.
-fn gives_way(z: Sizes, c: usize, e: usize, spare: &[u8]) -> bool
+fn is_used(z: Sizes, occupied: bool, c: usize, spare: &[u8]) -> bool
     requires { ⌜ Chip z (now spare) ⌝ }
-    requires { ⌜ c < z .c ⌝ }
-    requires { ⌜ e < z .c ⌝ }
-    ensures { λ r. ⌜ r ≡ givesWay z (spareOnly (now (spare .entry))) c e ⌝ }
+    requires { ⌜ wellFormed z (spareOnly (now spare)) ≡ true ⌝ }
+    requires { ⌜ c < body z ⌝ }
+    ensures { λ r. ⌜ r ≡ isUsed z (spareOnly (now (spare .entry))) occupied c ⌝ }
 {
-    let same = image::back_of(z, e, spare) == image::back_of(z, c, spare);
-    if !same {
-        return true;
-    }
-    let complete = image::complete(z, e, spare);
-    let newer = image::epoch_of(z, c, spare) < image::epoch_of(z, e, spare);
-    !complete | !newer
+    let used = image::used(z, c, spare);
+    if occupied { used } else { !used }
 }
 
-// Whether c is the newest complete copy of its back-end bucket.
-fn is_chosen(z: Sizes, c: usize, spare: &[u8]) -> bool
+// The used buckets, or the blank ones, rising.
+pub fn buckets(z: Sizes, occupied: bool, spare: &[u8]) -> Fifo
     requires { ⌜ Chip z (now spare) ⌝ }
-    requires { ⌜ c < z .c ⌝ }
-    ensures { λ r. ⌜ r ≡ isChosen z (spareOnly (now (spare .entry))) c ⌝ }
-{
-    if !image::complete(z, c, spare) {
-        return false;
-    }
-    let end = geometry::body(z);
-    let mut newest = true;
-    let mut e = 0;
-    while e < end {
-        newest = newest & gives_way(z, c, e, spare);
-        e += 1;
-    }
-    newest
-}
-
-// Whether e is no other Write bucket of w's back-end bucket.
-fn is_no_other(z: Sizes, w: usize, e: usize, spare: &[u8]) -> bool
-    requires { ⌜ Chip z (now spare) ⌝ }
-    requires { ⌜ w < z .c ⌝ }
-    requires { ⌜ e < z .c ⌝ }
-    ensures { λ r. ⌜ r ≡ isNoOther z (spareOnly (now (spare .entry))) w e ⌝ }
-{
-    let same = image::back_of(z, e, spare) == image::back_of(z, w, spare);
-    if !same {
-        return true;
-    }
-    !image::is_write(z, e, spare) | (e == w)
-}
-
-// Whether w is the only Write bucket of its back-end bucket.
-fn is_only(z: Sizes, w: usize, spare: &[u8]) -> bool
-    requires { ⌜ Chip z (now spare) ⌝ }
-    requires { ⌜ w < z .c ⌝ }
-    ensures { λ r. ⌜ r ≡ isOnly z (spareOnly (now (spare .entry))) w ⌝ }
-{
-    if !image::is_write(z, w, spare) {
-        return false;
-    }
-    let end = geometry::body(z);
-    let mut only = true;
-    let mut e = 0;
-    while e < end {
-        only = only & is_no_other(z, w, e, spare);
-        e += 1;
-    }
-    only
-}
-
-fn is_a(z: Sizes, kind: Kind, c: usize, spare: &[u8]) -> bool
-    requires { ⌜ Chip z (now spare) ⌝ }
-    requires { ⌜ c < z .c ⌝ }
-    ensures { λ r. ⌜ r ≡ isKind z (spareOnly (now (spare .entry))) kind c ⌝ }
-{
-    match kind {
-        Kind::Blank => !image::used(z, c, spare),
-        Kind::Write => image::is_write(z, c, spare),
-        Kind::Copy => image::is_copy(z, c, spare),
-        Kind::Dirty => image::is_dirty(z, c, spare),
-        Kind::Chosen => is_chosen(z, c, spare),
-        Kind::Only => is_only(z, c, spare),
-        Kind::Of(b) => image::back_of(z, c, spare) == b,
-        Kind::Newer(epoch) => epoch < image::epoch_of(z, c, spare),
-        Kind::Same(e) => e == c,
-    }
-}
-
-// How many buckets of the list are such.
-pub fn count(z: Sizes, kind: Kind, list: Fifo, spare: &[u8]) -> usize
-    requires { ⌜ Chip z (now spare) ⌝ }
-    requires { ⌜ Within z (listOf list) ⌝ }
-    ensures { λ r. ⌜ r ≡ length (keep (isKind z (spareOnly (now (spare .entry))) kind) (listOf list)) ⌝ }
-{
-    let n = list.used();
-    let items = list.items;
-    let mut count = 0;
-    let mut i = 0;
-    while i < n {
-        let c = items[i] as usize;
-        i += 1;
-        if is_a(z, kind, c, spare) {
-            count += 1;
-        }
-    }
-    count
-}
-
-fn is_kept(z: Sizes, rule: Rule, c: usize, list: Fifo, spare: &[u8]) -> bool
-    requires { ⌜ Chip z (now spare) ⌝ }
-    requires { ⌜ c < z .c ⌝ }
-    requires { ⌜ Within z (listOf list) ⌝ }
-    ensures { λ r. ⌜ r ≡ isKept z (spareOnly (now (spare .entry))) rule (listOf list) c ⌝ }
-{
-    match rule {
-        Rule::Being(kind) => is_a(z, kind, c, spare),
-        Rule::Absent => count(z, Kind::Same(c), list, spare) == 0,
-        Rule::Unmatched => {
-            let b = image::back_of(z, c, spare);
-            count(z, Kind::Of(b), list, spare) == 0
-        }
-        Rule::Newest(n) => {
-            let epoch = image::epoch_of(z, c, spare);
-            count(z, Kind::Newer(epoch), list, spare) < n
-        }
-    }
-}
-
-// The buckets of one list that pass the rule beside another list, in order.
-pub fn selected(z: Sizes, rule: Rule, from: Fifo, list: Fifo, spare: &[u8]) -> Fifo
-    requires { ⌜ Chip z (now spare) ⌝ }
-    requires { ⌜ Within z (listOf from) ⌝ }
-    requires { ⌜ Within z (listOf list) ⌝ }
-    ensures { λ r. ⌜ listOf r ≡ keep (isKept z (spareOnly (now (spare .entry))) rule (listOf list)) (listOf from) ⌝ }
-{
-    let n = from.used();
-    let items = from.items;
-    let mut kept = Fifo::empty();
-    let mut i = 0;
-    while i < n {
-        let c = items[i];
-        i += 1;
-        if is_kept(z, rule, c as usize, list, spare) {
-            kept = kept.push(c);
-        }
-    }
-    kept
-}
-
-// The cache buckets that are such, rising.
-pub fn buckets(z: Sizes, kind: Kind, spare: &[u8]) -> Fifo
-    requires { ⌜ Chip z (now spare) ⌝ }
-    ensures { λ r. ⌜ listOf r ≡ buckets z (spareOnly (now (spare .entry))) (isKind z (spareOnly (now (spare .entry))) kind) ⌝ }
+    requires { ⌜ wellFormed z (spareOnly (now spare)) ≡ true ⌝ }
+    ensures { λ r. ⌜ listOf r ≡ buckets z (spareOnly (now (spare .entry))) (isUsed z (spareOnly (now (spare .entry))) occupied) ⌝ }
 {
     let end = geometry::body(z);
     let mut items = [0u8; 256];
     let mut n = 0;
     let mut c = 0;
     while c < end {
-        if is_a(z, kind, c, spare) {
+        if is_used(z, occupied, c, spare) {
             items[n] = c as u8;
             n += 1;
         }
@@ -222,35 +58,232 @@ pub fn buckets(z: Sizes, kind: Kind, spare: &[u8]) -> Fifo
     Fifo { items, len: n }
 }
 
-pub fn write_classes(z: Sizes, spare: &[u8]) -> WriteClasses
+// The used buckets by epoch.
+pub fn in_order(z: Sizes, spare: &[u8]) -> Fifo
     requires { ⌜ Chip z (now spare) ⌝ }
-    ensures { λ r. ⌜ WriteLists z (spareOnly (now (spare .entry))) r ⌝ }
+    requires { ⌜ wellFormed z (spareOnly (now spare)) ≡ true ⌝ }
+    ensures { λ r. ⌜ listOf r ≡ inOrder z (spareOnly (now (spare .entry))) ⌝ }
 {
-    let all = buckets(z, Kind::Write, spare);
-    let only = buckets(z, Kind::Only, spare);
-    let kept = selected(z, Rule::Newest(z.w), only, only, spare);
-    let dropped = selected(z, Rule::Absent, all, kept, spare);
-    WriteClasses { all, kept, dropped }
+    let used = buckets(z, true, spare);
+    order::by_epoch(z, used, spare)
 }
 
-// Beside the dropped Write buckets.
-pub fn copy_classes(z: Sizes, writes: Fifo, spare: &[u8]) -> CopyClasses
+fn is_a(z: Sizes, kind: Kind, c: usize, spare: &[u8]) -> bool
     requires { ⌜ Chip z (now spare) ⌝ }
-    requires { ⌜ listOf writes ≡ buckets z (spareOnly (now spare)) (isDroppedWrite z (spareOnly (now spare))) ⌝ }
-    ensures { λ r. ⌜ CopyLists z (spareOnly (now (spare .entry))) r ⌝ }
+    requires { ⌜ wellFormed z (spareOnly (now spare)) ≡ true ⌝ }
+    requires { ⌜ c < body z ⌝ }
+    ensures { λ r. ⌜ r ≡ isKind z (spareOnly (now (spare .entry))) kind c ⌝ }
 {
-    let chosen = buckets(z, Kind::Chosen, spare);
-    let remaining = selected(z, Rule::Unmatched, chosen, writes, spare);
-    let kept = selected(z, Rule::Newest(z.r), remaining, remaining, spare);
-    let dropped = selected(z, Rule::Absent, chosen, kept, spare);
-    let unsaved = selected(z, Rule::Being(Kind::Dirty), dropped, dropped, spare);
-    let copies = buckets(z, Kind::Copy, spare);
-    let old = selected(z, Rule::Absent, copies, chosen, spare);
-    CopyClasses {
-        chosen,
-        kept,
-        dropped,
-        unsaved,
-        old,
+    match kind {
+        Kind::Write => image::is_write(z, c, spare),
+        Kind::Copy => image::is_copy(z, c, spare),
+        Kind::Complete => image::complete(z, c, spare),
+    }
+}
+
+fn named(z: Sizes, kind: Kind, c: usize, spare: &[u8]) -> u16
+    requires { ⌜ Chip z (now spare) ⌝ }
+    requires { ⌜ wellFormed z (spareOnly (now spare)) ≡ true ⌝ }
+    requires { ⌜ c < body z ⌝ }
+    ensures { λ r. ⌜ r ≡ named z (spareOnly (now (spare .entry))) (isKind z (spareOnly (now (spare .entry))) kind) c ⌝ }
+{
+    if is_a(z, kind, c, spare) {
+        image::back_of(z, c, spare)
+    } else {
+        NOWHERE
+    }
+}
+
+// The column of a kind.
+fn fill(z: Sizes, kind: Kind, order: &[u8], spare: &[u8], out: &mut [u16])
+    requires { ⌜ Chip z (now spare) ⌝ }
+    requires { ⌜ wellFormed z (spareOnly (now spare)) ≡ true ⌝ }
+    requires { ⌜ now order ≡ inOrder z (spareOnly (now spare)) ⌝ }
+    requires { ⌜ length (now out) ≡ length (now order) ⌝ }
+    ensures { λ _. ⌜ now (out .exit) ≡ column z (spareOnly (now (spare .entry))) (isKind z (spareOnly (now (spare .entry))) kind) ⌝ }
+{
+    let mut i = 0;
+    while i < order.len() {
+        let c = order[i] as usize;
+        out[i] = named(z, kind, c, spare);
+        i += 1;
+    }
+}
+
+// Room for a column.
+pub fn blank_column() -> [u16; 256]
+    ensures { λ r. ⌜ length r ≡ 256 ⌝ }
+{
+    [NOWHERE; 256]
+}
+
+// How often a back-end bucket stands in a column. All are compared, with no way out at the first: such a loop becomes few instructions.
+pub fn occurrences(b: u16, column: &[u16]) -> u16
+    requires { ⌜ length (now column) ≤ 256 ⌝ }
+    ensures { λ r. ⌜ r ≡ times b (now (column .entry)) ⌝ }
+{
+    let mut count = 0u16;
+    let mut i = 0;
+    while i < column.len() {
+        if b == column[i] {
+            count += 1;
+        }
+        i += 1;
+    }
+    count
+}
+
+fn sole_in(column: &[u16], b: u16) -> u16
+    requires { ⌜ length (now column) ≤ 256 ⌝ }
+    ensures { λ r. ⌜ r ≡ soleIn (now (column .entry)) b ⌝ }
+{
+    if b == NOWHERE {
+        return NOWHERE;
+    }
+    if occurrences(b, column) == 1 {
+        b
+    } else {
+        NOWHERE
+    }
+}
+
+fn absent_from(column: &[u16], b: u16) -> u16
+    requires { ⌜ length (now column) ≤ 256 ⌝ }
+    ensures { λ r. ⌜ r ≡ absentFrom (now (column .entry)) b ⌝ }
+{
+    if b == NOWHERE {
+        return NOWHERE;
+    }
+    if occurrences(b, column) == 0 {
+        b
+    } else {
+        NOWHERE
+    }
+}
+
+// Those that stand in the column once.
+fn sole(column: &[u16], out: &mut [u16])
+    requires { ⌜ length (now column) ≤ 256 ⌝ }
+    requires { ⌜ length (now out) ≡ length (now column) ⌝ }
+    ensures { λ _. ⌜ now (out .exit) ≡ map (soleIn (now (column .entry))) (now (column .entry)) ⌝ }
+{
+    let mut i = 0;
+    while i < column.len() {
+        out[i] = sole_in(column, column[i]);
+        i += 1;
+    }
+}
+
+// Those of one column that do not stand in the other.
+fn absent(other: &[u16], column: &[u16], out: &mut [u16])
+    requires { ⌜ length (now other) ≤ 256 ⌝ }
+    requires { ⌜ length (now out) ≡ length (now column) ⌝ }
+    ensures { λ _. ⌜ now (out .exit) ≡ map (absentFrom (now (other .entry))) (now (column .entry)) ⌝ }
+{
+    let mut i = 0;
+    while i < column.len() {
+        out[i] = absent_from(other, column[i]);
+        i += 1;
+    }
+}
+
+// Of those that stand in the column several times the last one stays.
+fn last_of_each(column: &mut [u16])
+    requires { ⌜ length (now column) ≤ 256 ⌝ }
+    ensures { λ _. ⌜ now (column .exit) ≡ lastOfEach (now (column .entry)) ⌝ }
+{
+    let mut i = 0;
+    while i < column.len() {
+        let b = column[i];
+        let next = i + 1;
+        column[i] = absent_from(&column[next..], b);
+        i = next;
+    }
+}
+
+// The candidates become all of the column but the last n of them.
+fn all_but(n: usize, column: &[u16], candidates: &mut [u16])
+    requires { ⌜ length (now candidates) ≡ length (now column) ⌝ }
+    ensures { λ _. ⌜ now (candidates .exit) ≡ allBut n (now (candidates .entry)) (now (column .entry)) ⌝ }
+{
+    let mut newer = 0;
+    let mut i = column.len();
+    while 0 < i {
+        i -= 1;
+        let candidate = candidates[i] != NOWHERE;
+        candidates[i] = if candidate & (newer < n) {
+            NOWHERE
+        } else {
+            column[i]
+        };
+        if candidate {
+            newer += 1;
+        }
+    }
+}
+
+// All Write buckets, and those of which the units are written: all but the newest that are alone in their back-end bucket.
+pub fn write_columns(z: Sizes, order: &[u8], spare: &[u8], writes: &mut [u16], dropped: &mut [u16])
+    requires { ⌜ Chip z (now spare) ⌝ }
+    requires { ⌜ wellFormed z (spareOnly (now spare)) ≡ true ⌝ }
+    requires { ⌜ now order ≡ inOrder z (spareOnly (now spare)) ⌝ }
+    requires { ⌜ (length (now writes) ≡ length (now order)) × (length (now dropped) ≡ length (now order)) ⌝ }
+    ensures { λ _. ⌜ now (writes .exit) ≡ column z (spareOnly (now (spare .entry))) (isWrite z (spareOnly (now (spare .entry)))) ⌝ }
+    ensures { λ _. ⌜ now (dropped .exit) ≡ column z (spareOnly (now (spare .entry))) (isDroppedWrite z (spareOnly (now (spare .entry)))) ⌝ }
+{
+    fill(z, Kind::Write, order, spare, writes);
+    sole(writes, dropped);
+    all_but(z.w, writes, dropped);
+}
+
+// The copy of each back-end bucket, and the dropped ones: all but the newest of those whose back-end bucket no dropped Write bucket is of.
+pub fn copy_columns(
+    z: Sizes,
+    order: &[u8],
+    writes: &[u16],
+    spare: &[u8],
+    copies: &mut [u16],
+    dropped: &mut [u16],
+)
+    requires { ⌜ Chip z (now spare) ⌝ }
+    requires { ⌜ wellFormed z (spareOnly (now spare)) ≡ true ⌝ }
+    requires { ⌜ now order ≡ inOrder z (spareOnly (now spare)) ⌝ }
+    requires { ⌜ now writes ≡ column z (spareOnly (now spare)) (isDroppedWrite z (spareOnly (now spare))) ⌝ }
+    requires { ⌜ (length (now copies) ≡ length (now order)) × (length (now dropped) ≡ length (now order)) ⌝ }
+    ensures { λ _. ⌜ now (copies .exit) ≡ column z (spareOnly (now (spare .entry))) (isChosen z (spareOnly (now (spare .entry)))) ⌝ }
+    ensures { λ _. ⌜ now (dropped .exit) ≡ column z (spareOnly (now (spare .entry))) (isDroppedCopy z (spareOnly (now (spare .entry)))) ⌝ }
+{
+    fill(z, Kind::Complete, order, spare, copies);
+    last_of_each(copies);
+    absent(writes, copies, dropped);
+    all_but(z.r, copies, dropped);
+}
+
+// The back-end bucket of a copy that is not the one of its back-end bucket.
+fn old_back(z: Sizes, c: usize, copy: u16, spare: &[u8]) -> u16
+    requires { ⌜ Chip z (now spare) ⌝ }
+    requires { ⌜ wellFormed z (spareOnly (now spare)) ≡ true ⌝ }
+    requires { ⌜ c < body z ⌝ }
+    ensures { λ r. ⌜ r ≡ (if isNamed copy then nowhere else named z (spareOnly (now (spare .entry))) (isCopy z (spareOnly (now (spare .entry)))) c) ⌝ }
+{
+    if copy != NOWHERE {
+        return NOWHERE;
+    }
+    named(z, Kind::Copy, c, spare)
+}
+
+// Superseded and incomplete copies.
+pub fn old_column(z: Sizes, order: &[u8], copies: &[u16], spare: &[u8], out: &mut [u16])
+    requires { ⌜ Chip z (now spare) ⌝ }
+    requires { ⌜ wellFormed z (spareOnly (now spare)) ≡ true ⌝ }
+    requires { ⌜ now order ≡ inOrder z (spareOnly (now spare)) ⌝ }
+    requires { ⌜ now copies ≡ column z (spareOnly (now spare)) (isChosen z (spareOnly (now spare))) ⌝ }
+    requires { ⌜ length (now out) ≡ length (now order) ⌝ }
+    ensures { λ _. ⌜ now (out .exit) ≡ column z (spareOnly (now (spare .entry))) (isOldCopy z (spareOnly (now (spare .entry)))) ⌝ }
+{
+    let mut i = 0;
+    while i < order.len() {
+        out[i] = old_back(z, order[i] as usize, copies[i], spare);
+        i += 1;
     }
 }

@@ -15,7 +15,8 @@ use Rattle.image.specs.Chip.{spareOnly}
 use Rattle.meter.specs.Run.{Run, runAll}
 use Rattle.meter.proofs.Runs.{run-append}
 use Rattle.order.specs.Order.{nextOf}
-use Rattle.order.proofs.Next.{keep-more, next-passes, next-kept}
+use Rattle.lists.proofs.Filters.{take-more}
+use Rattle.order.proofs.Next.{next-passes, next-kept}
 use Rattle.unclean.proofs.Leaves.{same-unclean}
 
 -- those of the back-end buckets below n
@@ -40,5 +41,5 @@ module _ (z : Sizes) (d : Device) (s : State) (l : List ℕ) (listed : (b : ℕ)
   stores-more b r h e =
       let f = drainStores z d s in
       let t = unclean z d s in
-      rw (next-kept t l (z .b) all-listed (b + 1) (omega arith), keep-more t b e, concat-more f (keep t (below b)) b)
+      rw (next-kept t l (z .b) all-listed (b + 1) (omega arith), take-more t b e, concat-more f (keep t (below b)) b)
       (sym (run-append z (concatMap f (keep t (below b))) (f b) r))

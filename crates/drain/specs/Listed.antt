@@ -1,23 +1,22 @@
 -- When a drain can be made, and the list of what it writes.
-use Prim.Native.Nat.{ℕ, _≤_}
+use Prim.Native.Nat.{ℕ}
 use mathlib.Core.Path.{_≡_}
 use mathlib.Core.Bool.{true}
 use mathlib.Core.List.{List}
-use lib.ListN.{take}
 use Rattle.lists.specs.Lists.{member}
 use Rattle.model.specs.Image.{wellFormed}
-use Rattle.model.specs.State.{State}
+use Rattle.model.specs.State.{State, stateFits}
 use Rattle.model.specs.Operations.{unclean}
 use Rattle.image.specs.Chip.{spareOnly}
 use Rattle.steps.specs.Ready.{Orderly}
 
--- the state's cache buckets are on a chip made by the page rules
+-- the state's queues fit a chip made by the page rules
 pub record Drains (s : State) (spare : List ℕ) : Type 0 where
   pub orderly : Orderly s
   pub well-formed : wellFormed (s .sizes) (spareOnly spare) ≡ true
+  pub fits : stateFits s (spareOnly spare) ≡ true
 
--- and the unclean back-end buckets are the first `count` numbers
-pub record Listed (s : State) (spare backs : List ℕ) (count : ℕ) : Type 0 where
+-- and the unclean back-end buckets are the listed ones
+pub record Listed (s : State) (spare backs : List ℕ) : Type 0 where
   pub drains : Drains s spare
-  pub few : count ≤ 256
-  pub listed : (b : ℕ) → unclean (s .sizes) (spareOnly spare) s b ≡ member b (take count backs)
+  pub listed : (b : ℕ) → unclean (s .sizes) (spareOnly spare) s b ≡ member b backs

@@ -42,25 +42,24 @@ fn write_back(
 fn write_listed(
     meter: Meter,
     s: State,
-    backs: [u16; 256],
-    count: usize,
+    backs: &[u16],
     buffer: &mut [u8],
     flash: &mut [u8],
     spare: &mut [u8],
     disk: &mut [u8],
 ) -> Meter
     requires { ⌜ Lent (s .sizes) (now flash) (now spare) (now disk) ⌝ }
-    requires { ⌜ Listed (viewOf s) (now spare) backs count ⌝ }
+    requires { ⌜ Listed (viewOf s) (now spare) (now backs) ⌝ }
     requires { ⌜ length (now buffer) ≡ bucketSize (s .sizes) ⌝ }
     ensures { λ r. ⌜ running (now (flash .exit)) (now (spare .exit)) (now (disk .exit)) r ≡ runAll (s .sizes) (drain (s .sizes) (viewOf s) (device (now (flash .entry)) (now (spare .entry)) (now (disk .entry))) .stores) (running (now (flash .entry)) (now (spare .entry)) (now (disk .entry)) meter) ⌝ }
     ensures { λ _. ⌜ Lent (s .sizes) (now (flash .exit)) (now (spare .exit)) (now (disk .exit)) ⌝ }
 {
     let end = s.sizes.b;
     let mut left = meter;
-    let mut b = order::next_of(backs, count, 0, end);
+    let mut b = order::next_of(backs, 0, end);
     while b < end {
         left = write_back(left, s, b as u16, buffer, flash, spare, disk);
-        b = order::next_of(backs, count, b + 1, end);
+        b = order::next_of(backs, b + 1, end);
     }
     left
 }
@@ -68,14 +67,13 @@ fn write_listed(
 fn write_small(
     meter: Meter,
     s: State,
-    backs: [u16; 256],
-    count: usize,
+    backs: &[u16],
     flash: &mut [u8],
     spare: &mut [u8],
     disk: &mut [u8],
 ) -> Meter
     requires { ⌜ Lent (s .sizes) (now flash) (now spare) (now disk) ⌝ }
-    requires { ⌜ Listed (viewOf s) (now spare) backs count ⌝ }
+    requires { ⌜ Listed (viewOf s) (now spare) (now backs) ⌝ }
     requires { ⌜ bucketSize (s .sizes) ≤ 2048 ⌝ }
     ensures { λ r. ⌜ running (now (flash .exit)) (now (spare .exit)) (now (disk .exit)) r ≡ runAll (s .sizes) (drain (s .sizes) (viewOf s) (device (now (flash .entry)) (now (spare .entry)) (now (disk .entry))) .stores) (running (now (flash .entry)) (now (spare .entry)) (now (disk .entry)) meter) ⌝ }
     ensures { λ _. ⌜ Lent (s .sizes) (now (flash .exit)) (now (spare .exit)) (now (disk .exit)) ⌝ }
@@ -83,68 +81,48 @@ fn write_small(
     let mut buffer = [0u8; 2048];
     let z = s.sizes;
     let size = z.p * z.s;
-    write_listed(
-        meter,
-        s,
-        backs,
-        count,
-        &mut buffer[..size],
-        flash,
-        spare,
-        disk,
-    )
+    write_listed(meter, s, backs, &mut buffer[..size], flash, spare, disk)
 }
 
 fn write_large(
     meter: Meter,
     s: State,
-    backs: [u16; 256],
-    count: usize,
+    backs: &[u16],
     flash: &mut [u8],
     spare: &mut [u8],
     disk: &mut [u8],
 ) -> Meter
     requires { ⌜ Lent (s .sizes) (now flash) (now spare) (now disk) ⌝ }
-    requires { ⌜ Listed (viewOf s) (now spare) backs count ⌝ }
+    requires { ⌜ Listed (viewOf s) (now spare) (now backs) ⌝ }
     ensures { λ r. ⌜ running (now (flash .exit)) (now (spare .exit)) (now (disk .exit)) r ≡ runAll (s .sizes) (drain (s .sizes) (viewOf s) (device (now (flash .entry)) (now (spare .entry)) (now (disk .entry))) .stores) (running (now (flash .entry)) (now (spare .entry)) (now (disk .entry)) meter) ⌝ }
     ensures { λ _. ⌜ Lent (s .sizes) (now (flash .exit)) (now (spare .exit)) (now (disk .exit)) ⌝ }
 {
     let mut buffer = [0u8; 65536];
     let z = s.sizes;
     let size = z.p * z.s;
-    write_listed(
-        meter,
-        s,
-        backs,
-        count,
-        &mut buffer[..size],
-        flash,
-        spare,
-        disk,
-    )
+    write_listed(meter, s, backs, &mut buffer[..size], flash, spare, disk)
 }
 
 // A bucket of at most 2,048 bytes is gathered in an array of that size: there is less to clear.
 fn write_units(
     meter: Meter,
     s: State,
-    backs: [u16; 256],
-    count: usize,
+    backs: &[u16],
     flash: &mut [u8],
     spare: &mut [u8],
     disk: &mut [u8],
 ) -> Meter
     requires { ⌜ Lent (s .sizes) (now flash) (now spare) (now disk) ⌝ }
-    requires { ⌜ Listed (viewOf s) (now spare) backs count ⌝ }
+    requires { ⌜ Listed (viewOf s) (now spare) (now backs) ⌝ }
     ensures { λ r. ⌜ running (now (flash .exit)) (now (spare .exit)) (now (disk .exit)) r ≡ runAll (s .sizes) (drain (s .sizes) (viewOf s) (device (now (flash .entry)) (now (spare .entry)) (now (disk .entry))) .stores) (running (now (flash .entry)) (now (spare .entry)) (now (disk .entry)) meter) ⌝ }
     ensures { λ _. ⌜ Lent (s .sizes) (now (flash .exit)) (now (spare .exit)) (now (disk .exit)) ⌝ }
 {
     let z = s.sizes;
     let size = z.p * z.s;
     if size <= 2048 {
-        write_small(meter, s, backs, count, flash, spare, disk)
+        write_small(meter, s, backs, flash, spare, disk)
     } else {
-        write_large(meter, s, backs, count, flash, spare, disk)
+        write_large(meter, s, backs, flash, spare, disk)
     }
 }
 
@@ -163,8 +141,9 @@ pub fn drain_queues(
 {
     let work = unclean::drained(s, spare);
     let backs = work.backs;
+    let count = work.count;
     let state = work.state;
-    let left = write_units(meter, s, backs, work.count, flash, spare, disk);
+    let left = write_units(meter, s, &backs[..count], flash, spare, disk);
     Turn { meter: left, state }
 }
 

@@ -16,12 +16,12 @@ use Rattle.geometry.specs.Geometry.{device}
 use Rattle.state.specs.View.{viewOf}
 use Rattle.outcome.specs.Handed.{Handed, handedBack, handed}
 use Rattle.outcome.proofs.Ends.{handed-view}
-use Rattle.calls.specs.Arrays.{inArrays}
+use Rattle.calls.specs.Arrays.{inArrays, seen}
 use Rattle.drive.specs.declared.Recorder.{Recorder as RecorderStruct}
 use Rattle.drive.specs.declared.Printed.{Printed as PrintedStruct}
 use Rattle.drive.specs.Recorder.{recorderOf, printedOf, outcomeOf, after, calledLine}
 use Rattle.drive.proofs.Bounds.{stores-within, done-room}
-use Rattle.drive.proofs.Texts.{printed-alike}
+use Rattle.drive.proofs.Texts.{printed-alike, printed-seen}
 
 module _ (z : Sizes) (format : Bool) (r : RecorderStruct) (a : Device) (f : List ℕ) where
   -- the outcome of the call on the lent parts, and the same with the whole arrays
@@ -48,7 +48,11 @@ module _ (z : Sizes) (format : Bool) (r : RecorderStruct) (a : Device) (f : List
   unfolding calledLine settled
   left-called = rw (printed-alike (lent .answer) (lent .stores) (lent .buffer) (lent .state) (lent .state) (giveBack z a (lent .device)) (lent .device))
 
-  module _ (h : Handed) (m : h ≡ inArrays z a (handed (r .state) lent)) where
+  left-seen : (h : Handed) → left (outcomeOf h) ≡ left (outcomeOf (seen h))
+  unfolding seen
+  left-seen h = let o = h .outcome in rw (printed-seen (o .answer) (o .stores) (h .buffer) (viewOf (o .state)) (h .device))
+
+  module _ (h : Handed) (m : seen h ≡ seen (inArrays z a (handed (r .state) lent))) where
     pub line-called : (p : PrintedStruct) (out : List ℕ)
         → p .recorder ≡ after r z (h .outcome .state) (format && isDone (h .outcome .answer))
         → take (p .length) out ≡ printed (outcomeOf (handedBack (device [] [] []) (h .buffer) (h .outcome)))
@@ -56,13 +60,13 @@ module _ (z : Sizes) (format : Bool) (r : RecorderStruct) (a : Device) (f : List
     line-called p out q t =
         let o = h .outcome in
         rw (q, t, printed-alike (o .answer) (o .stores) (h .buffer) (viewOf (o .state)) (viewOf (o .state)) (device [] [] []) (h .device))
-        (ap left (ap outcomeOf m ∙ handed-whole) ∙ left-called)
+        (left-seen h ∙ ap (λ (g : Handed). left (outcomeOf g)) m ∙ sym (left-seen (inArrays z a (handed (r .state) lent))) ∙ ap left handed-whole ∙ left-called)
 
     pub line-stores : h .outcome .stores ≤ allowance f
-    unfolding inArrays handed
+    unfolding inArrays seen handed
     line-stores = omega (arith, ap (λ (g : Handed). g .outcome .stores) m, stores-within (allowance f) (callOf z f) (viewOf (r .state)) (lend z a))
 
     pub line-room : h .outcome .answer ≡ Done → length (lentBuffer (callOf z f)) ≤ diskSize z
-    unfolding inArrays handed lend
+    unfolding inArrays seen handed lend
     line-room e =
         omega (arith, done-room (allowance f) (callOf z f) (viewOf (r .state)) (lend z a) (sym (ap (λ (g : Handed). g .outcome .answer) m) ∙ e), length-take (diskSize z) (a .disk))

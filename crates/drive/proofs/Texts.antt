@@ -5,10 +5,12 @@ use Prim.Native.Nat.{ℕ, _≤_}
 use native.Mathlib.Omega.{arith}
 use lib.ListN.{length, take, length-append}
 use lib.Seq.{take-at}
+use Rattle.lists.specs.Lists.{if_then_else_}
 use Rattle.model.specs.declared.Answer.{Answer}
 use Rattle.model.specs.declared.Answer.the-variants.{Done, Idle, Cut, Refused}
 use Rattle.model.specs.Sizes.{Device}
 use Rattle.model.specs.State.{State}
+use Rattle.model.specs.Calls.{isDone}
 use Rattle.model.specs.Driving.{shown, printed, noCall}
 use Rattle.drive.specs.declared.Recorder.{Recorder as RecorderStruct}
 use Rattle.drive.specs.declared.Printed.{Printed as PrintedStruct}
@@ -26,6 +28,15 @@ printed-alike Done n bytes s t d e = refl
 printed-alike Idle n bytes s t d e = refl
 printed-alike Cut n bytes s t d e = refl
 printed-alike (Refused r) n bytes s t d e = refl
+
+-- it has nothing of the bytes lent either, unless the answer is Done
+pub printed-seen : (a : Answer) (n : ℕ) (bytes : List ℕ) (s : State) (d : Device)
+    → printed (record { answer = a; stores = n; state = s; device = d; buffer = bytes }) ≡ printed (record { answer = a; stores = n; state = s; device = d; buffer = if isDone a then bytes else [] })
+unfolding printed isDone
+printed-seen Done n bytes s d = refl
+printed-seen Idle n bytes s d = refl
+printed-seen Cut n bytes s d = refl
+printed-seen (Refused r) n bytes s d = refl
 
 -- a line that makes no call
 pub no-call-line : (answer : ℕ) (r : RecorderStruct) (p : PrintedStruct) (flash spare disk out : List ℕ) → (p .recorder ≡ r) × (take (p .length) out ≡ shown answer 0 [])

@@ -9,6 +9,7 @@ ghost use mathlib.Core.Bool.{true};
 ghost use mathlib.Core.List.{[]};
 ghost use Prim.Native.Nat.{_+_, _*_, _<_, _≤_};
 ghost use lib.ListN.{length, take};
+ghost use Rattle.lists.specs.Lists.{if_then_else_};
 ghost use Rattle.model.specs.declared.Answer.the-variants.{Done};
 ghost use Rattle.model.specs.Calls.{isDone};
 ghost use Rattle.model.specs.Driving.{bytesOf, operation, lineFits, formatSizes, tooLarge, shown, printed, formatLine, callLine, onLine};
@@ -81,25 +82,23 @@ fn too_large(z: Sizes) -> bool
     (32768 < chip) | (16384 < z.b * bucket)
 }
 
-// The recorder after a call at the sizes z: a Done format's sizes are kept.
+// The recorder after a call at the sizes z: a Done format's sizes are kept. Only the sizes are chosen between: a choice between recorders would copy the state.
 fn settle(r: Recorder, z: Sizes, state: State, formats: bool) -> Recorder
     ensures { λ p. ⌜ p ≡ after r z state formats ⌝ }
 {
     let formatted = r.formatted | formats;
-    if formats {
-        Recorder {
-            state,
-            formatted,
-            sizes: z,
-        }
-    } else {
-        let sizes = r.sizes;
-        Recorder {
-            state,
-            formatted,
-            sizes,
-        }
+    let sizes = sizes_kept(formats, z, r.sizes);
+    Recorder {
+        state,
+        formatted,
+        sizes,
     }
+}
+
+fn sizes_kept(formats: bool, new: Sizes, old: Sizes) -> Sizes
+    ensures { λ r. ⌜ r ≡ (if formats then new else old) ⌝ }
+{
+    if formats { new } else { old }
 }
 
 // A line that makes its call, at the sizes z.

@@ -58,7 +58,7 @@ fn evict_by(
     ensures { λ r. ⌜ reached (now (flash .exit)) (now (spare .exit)) (now (disk .exit)) r ≡ after (s .sizes) (evict (s .sizes) b) (viewOf s) (running (now (flash .entry)) (now (spare .entry)) (now (disk .entry)) meter) ⌝ }
     ensures { λ _. ⌜ Lent (s .sizes) (now (flash .exit)) (now (spare .exit)) (now (disk .exit)) ⌝ }
 {
-    gather::merged_into(s, b, flash, spare, disk, buffer);
+    gather::merged_range(s, b, 0, flash, spare, disk, buffer);
     let kept = put_away(meter, s, b, buffer, flash, spare, disk);
     let left = kept.meter;
     let state = kept.state.drop_write(b);

@@ -7,7 +7,7 @@ ghost use mathlib.Core.Bool.{true};
 ghost use Prim.Native.Nat.{_<_};
 ghost use Rattle.lists.specs.Lists.{all};
 ghost use Rattle.model.specs.Sizes.{body};
-ghost use Rattle.model.specs.Image.{wellFormed};
+ghost use Rattle.model.specs.Image.{bucketFits, epochOf, wellFormed};
 ghost use Rattle.model.specs.State.{caches, queued, isBelow, readAgrees, writeAgrees, allBlank, topEpoch, stateFits};
 ghost use Rattle.image.specs.Chip.{Chip, spareOnly};
 ghost use Rattle.fifo.specs.View.{listOf};
@@ -54,22 +54,37 @@ fn tags_agree(s: State, spare: &[u8]) -> bool
 
 fn numbers_fit(s: State, spare: &[u8]) -> bool
     requires { ⌜ Chip (s .sizes) (now spare) ⌝ }
+    requires { ⌜ wellFormed (s .sizes) (spareOnly (now spare)) ≡ true ⌝ }
     ensures { λ r. ⌜ r ≡ numbersFit (viewOf s) (spareOnly (now (spare .entry))) ⌝ }
 {
     let top = top_epoch(s.sizes, spare);
     (s.accepted <= 15) & (1 <= s.next) & (top < s.next) & (s.next <= 4294967296)
 }
 
+fn epoch_there(z: Sizes, c: usize, spare: &[u8]) -> u32
+    requires { ⌜ Chip z (now spare) ⌝ }
+    requires { ⌜ c < z .c ⌝ }
+    requires { ⌜ bucketFits z (spareOnly (now spare)) c ≡ true ⌝ }
+    ensures { λ r. ⌜ r ≡ epochOf z (spareOnly (now (spare .entry))) c ⌝ }
+{
+    if image::used(z, c, spare) {
+        image::used_epoch(z, c, spare)
+    } else {
+        0
+    }
+}
+
 // The largest epoch of a bucket on the chip, or 0.
 pub fn top_epoch(z: Sizes, spare: &[u8]) -> u64
     requires { ⌜ Chip z (now spare) ⌝ }
+    requires { ⌜ wellFormed z (spareOnly (now spare)) ≡ true ⌝ }
     ensures { λ r. ⌜ r ≡ topEpoch z (spareOnly (now (spare .entry))) ⌝ }
 {
     let end = geometry::body(z);
     let mut top = 0;
     let mut c = 0;
     while c < end {
-        let epoch = image::epoch_of(z, c, spare) as u64;
+        let epoch = epoch_there(z, c, spare) as u64;
         c += 1;
         if top < epoch {
             top = epoch;
@@ -81,6 +96,7 @@ pub fn top_epoch(z: Sizes, spare: &[u8]) -> u64
 fn read_agrees(e: Entry, z: Sizes, spare: &[u8]) -> bool
     requires { ⌜ Chip z (now spare) ⌝ }
     requires { ⌜ e .cache < z .c ⌝ }
+    requires { ⌜ bucketFits z (spareOnly (now spare)) (e .cache) ≡ true ⌝ }
     ensures { λ r. ⌜ r ≡ readAgrees z (spareOnly (now (spare .entry))) e ⌝ }
 {
     let c = e.cache as usize;
@@ -102,6 +118,7 @@ fn write_agrees(e: Entry, z: Sizes, spare: &[u8]) -> bool
 fn entry_agrees(e: Entry, written: bool, z: Sizes, spare: &[u8]) -> bool
     requires { ⌜ Chip z (now spare) ⌝ }
     requires { ⌜ e .cache < z .c ⌝ }
+    requires { ⌜ bucketFits z (spareOnly (now spare)) (e .cache) ≡ true ⌝ }
     ensures { λ r. ⌜ r ≡ agrees z (spareOnly (now (spare .entry))) written e ⌝ }
 {
     if written {
@@ -114,6 +131,7 @@ fn entry_agrees(e: Entry, written: bool, z: Sizes, spare: &[u8]) -> bool
 // All entries of the write queue, or of the read queue.
 fn queue_agrees(queue: queue::Queue, written: bool, z: Sizes, spare: &[u8]) -> bool
     requires { ⌜ Chip z (now spare) ⌝ }
+    requires { ⌜ wellFormed z (spareOnly (now spare)) ≡ true ⌝ }
     requires { ⌜ all (isBelow (body z)) (caches (entriesOf queue)) ≡ true ⌝ }
     ensures { λ r. ⌜ r ≡ all (agrees z (spareOnly (now (spare .entry))) written) (entriesOf queue) ⌝ }
 {

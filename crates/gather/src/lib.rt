@@ -36,8 +36,9 @@ fn base_range(s: State, b: u16, from: usize, flash: &[u8], disk: &[u8], window: 
 {
     let z = s.sizes;
     let size = z.p * z.s;
-    if s.reads.holds(b) {
-        let c = s.reads.cache_of(b) as usize;
+    let copy = s.reads.find(b);
+    if copy.held {
+        let c = copy.cache as usize;
         piece_range(flash, size, c, from, window);
     } else {
         piece_range(disk, size, b as usize, from, window);
@@ -59,8 +60,9 @@ pub fn merged_range(
     ensures { λ _. ⌜ now (window .exit) ≡ part (merged (s .sizes) (viewOf s) (device (now (flash .entry)) (now (spare .entry)) (now (disk .entry))) b) from (length (now (window .entry))) ⌝ }
 {
     base_range(s, b, from, flash, disk, window);
-    if s.writes.holds(b) {
-        let c = s.writes.cache_of(b) as usize;
+    let logs = s.writes.find(b);
+    if logs.held {
+        let c = logs.cache as usize;
         merge::merge_range(s.sizes, c, from, flash, spare, window);
     }
 }

@@ -1,17 +1,22 @@
 -- The first page of a bucket, by single spare bytes.
 use Prim.Native.Nat.{ℕ, _+_, _*_, _≤_, _<_}
-use mathlib.Core.Path.{_≡_, refl, ap}
+use mathlib.Core.Path.{_≡_, refl, sym, ap}
 use mathlib.Core.Bool.{Bool, true, false, not, _&&_}
 use mathlib.Core.List.{List}
 use native.Mathlib.Nat.{add-zero}
 use native.Mathlib.Omega.{arith}
 use lib.ListN.{length}
 use lib.Dec.{eqb}
-use Rattle.lists.specs.Lists.{part}
+use borrow.Author.Tests.{eq-eqb, ne-eqb}
+use Rattle.lists.specs.Lists.{allBelow, part}
+use Rattle.lists.proofs.Rows.{all-below}
+use Rattle.lists.proofs.Tests.{and-left}
 use Rattle.model.specs.declared.Sizes.{Sizes}
-use Rattle.model.specs.Sizes.{Device, pageIndex}
+use Rattle.model.specs.Sizes.{Device, pageIndex, body}
 use Rattle.model.specs.Spare.{blank, kind, epoch}
 use Rattle.model.specs.Stores.{tagOf}
+use Rattle.model.specs.Image.{pageFits, bucketFits, wellFormed}
+use Rattle.model.proofs.Formed.{page-fields}
 use Rattle.spare.proofs.Looked.{kind-erased, epoch-erased}
 use Rattle.image.specs.Chip.{Chip}
 use Rattle.image.proofs.Place.{page-inside}
@@ -33,6 +38,21 @@ by-byte tag n = go (blank tag) refl
 
 pub kind-used : (tag : List ℕ) → (kind tag ≡ 255 → ⊥) → blank tag ≡ false
 kind-used tag n = by-byte tag (λ e. n (kind-erased tag e))
+
+pub formed-bucket : (z : Sizes) (d : Device) → wellFormed z d ≡ true → (c : ℕ) → c < body z → bucketFits z d c ≡ true
+unfolding wellFormed
+formed-bucket z d h c inside = all-below (body z) (bucketFits z d) (and-left (allBelow (body z) (bucketFits z d)) _ h) c inside
+
+-- in a bucket that fits a blank page is one with no kind
+pub kind-blank : (z : Sizes) (d : Device) (c k : ℕ) → bucketFits z d c ≡ true → k < z .p → blank (tagOf z d c k) ≡ eqb (kind (tagOf z d c k)) 255
+unfolding bucketFits
+kind-blank z d c k fit h = go (blank (tagOf z d c k)) refl
+  where
+    go : (t : Bool) → blank (tagOf z d c k) ≡ t → t ≡ eqb (kind (tagOf z d c k)) 255
+    go true e = sym (eq-eqb (kind (tagOf z d c k)) 255 (kind-erased (tagOf z d c k) e))
+    go false e =
+        let f = page-fields z d c (all-below (z .p) (pageFits z d c) fit) k h e in
+        sym (ne-eqb (kind (tagOf z d c k)) 255 (λ q. omega (arith, f .kind-high)))
 
 pub epoch-used : (tag : List ℕ) → (epoch tag ≡ 4294967295 → ⊥) → blank tag ≡ false
 epoch-used tag n = by-byte tag (λ e. n (epoch-erased tag e))

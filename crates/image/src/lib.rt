@@ -4,9 +4,10 @@
 use model::Sizes;
 use spare::Seen;
 ghost use mathlib.Core.Path.{_≡_};
+ghost use mathlib.Core.Bool.{true};
 ghost use Prim.Native.Nat.{_<_};
 ghost use Rattle.model.specs.Stores.{tagOf};
-ghost use Rattle.model.specs.Image.{used, epochOf, backOf, isWrite, isCopy, isDirty, complete, pageBlank, blanks};
+ghost use Rattle.model.specs.Image.{bucketFits, used, epochOf, backOf, isWrite, isCopy, isDirty, complete, pageBlank, blanks};
 ghost use Rattle.spare.specs.Fields.{seen};
 ghost use Rattle.image.specs.Chip.{Chip, spareOnly};
 
@@ -20,19 +21,14 @@ pub fn look(z: Sizes, c: usize, k: usize, spare: &[u8]) -> Seen
     spare::look_at(spare, c * z.p + k)
 }
 
+// In a bucket that fits a page is blank if it has no kind.
 pub fn used(z: Sizes, c: usize, spare: &[u8]) -> bool
     requires { ⌜ Chip z (now spare) ⌝ }
     requires { ⌜ c < z .c ⌝ }
+    requires { ⌜ bucketFits z (spareOnly (now spare)) c ≡ true ⌝ }
     ensures { λ r. ⌜ r ≡ used z (spareOnly (now (spare .entry))) c ⌝ }
 {
-    if spare::kind_at(spare, c * z.p) != 255 {
-        return true;
-    }
-    let page = look(z, c, 0, spare);
-    match page {
-        Seen::Blank => false,
-        Seen::Programmed(_) => true,
-    }
+    spare::kind_at(spare, c * z.p) != 255
 }
 
 pub fn epoch_of(z: Sizes, c: usize, spare: &[u8]) -> u32
@@ -44,7 +40,17 @@ pub fn epoch_of(z: Sizes, c: usize, spare: &[u8]) -> u32
     if epoch != 4294967295 {
         return epoch;
     }
-    if used(z, c, spare) { epoch } else { 0 }
+    if page_blank(z, c, 0, spare) { 0 } else { epoch }
+}
+
+// The epoch of a bucket that is used.
+pub fn used_epoch(z: Sizes, c: usize, spare: &[u8]) -> u32
+    requires { ⌜ Chip z (now spare) ⌝ }
+    requires { ⌜ c < z .c ⌝ }
+    requires { ⌜ used z (spareOnly (now spare)) c ≡ true ⌝ }
+    ensures { λ r. ⌜ r ≡ epochOf z (spareOnly (now (spare .entry))) c ⌝ }
+{
+    spare::epoch_at(spare, c * z.p)
 }
 
 pub fn back_of(z: Sizes, c: usize, spare: &[u8]) -> u16
@@ -66,13 +72,11 @@ pub fn is_write(z: Sizes, c: usize, spare: &[u8]) -> bool
 pub fn is_copy(z: Sizes, c: usize, spare: &[u8]) -> bool
     requires { ⌜ Chip z (now spare) ⌝ }
     requires { ⌜ c < z .c ⌝ }
+    requires { ⌜ bucketFits z (spareOnly (now spare)) c ≡ true ⌝ }
     ensures { λ r. ⌜ r ≡ isCopy z (spareOnly (now (spare .entry))) c ⌝ }
 {
-    let page = look(z, c, 0, spare);
-    match page {
-        Seen::Blank => false,
-        Seen::Programmed(f) => f.kind != 2,
-    }
+    let kind = spare::kind_at(spare, c * z.p);
+    (kind != 255) & (kind != 2)
 }
 
 pub fn is_dirty(z: Sizes, c: usize, spare: &[u8]) -> bool
@@ -100,10 +104,11 @@ pub fn page_blank(z: Sizes, c: usize, k: usize, spare: &[u8]) -> bool
 pub fn complete(z: Sizes, c: usize, spare: &[u8]) -> bool
     requires { ⌜ Chip z (now spare) ⌝ }
     requires { ⌜ c < z .c ⌝ }
+    requires { ⌜ bucketFits z (spareOnly (now spare)) c ≡ true ⌝ }
     ensures { λ r. ⌜ r ≡ complete z (spareOnly (now (spare .entry))) c ⌝ }
 {
     let copy = is_copy(z, c, spare);
-    copy & !page_blank(z, c, z.p - 1, spare)
+    copy & (spare::kind_at(spare, c * z.p + (z.p - 1)) != 255)
 }
 
 // How many of the bucket's pages are blank.

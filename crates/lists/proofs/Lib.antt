@@ -4,11 +4,13 @@ pub mod Parts
 pub mod All
 pub mod Lent
 pub mod Turns
-pub mod Members
 pub mod Counts
+pub mod Places
 pub mod Orders
 pub mod Distinct
 pub mod Sames
 pub mod Arrays
 pub mod Splices
 pub mod Windows
+pub mod Filters
+pub mod Members

@@ -1,6 +1,6 @@
--- Searches from an index on: whether a number stands in a list, and whether all of a list differ.
+-- A list from an index on, and whether a number stands in it.
 use mathlib.Core.Path.{_≡_}
-use mathlib.Core.Bool.{true, false, not, _&&_, _||_}
+use mathlib.Core.Bool.{false, _||_}
 use mathlib.Core.List.{List}
 use Prim.Native.Nat.{ℕ, _+_, _-_, _<_, _≤_}
 use native.Mathlib.Numerals.{add-one}
@@ -8,7 +8,7 @@ use native.Mathlib.Omega.{arith}
 use lib.ListN.{length, take, drop, getD, length-drop, drop-of-length-le}
 use lib.Seq.{drop-cons, take-all}
 use lib.Dec.{eqb}
-use Rattle.lists.specs.Lists.{any, member, distinct}
+use Rattle.lists.specs.Lists.{any, member}
 
 module _ (l : List ℕ) (i : ℕ) where
   pub member-step : (x : ℕ) → i < length l → member x (drop i l) ≡ (eqb x (getD l i 0) || member x (drop (i + 1) l))
@@ -22,11 +22,3 @@ module _ (l : List ℕ) (i : ℕ) where
   -- what is lent from an index on
   pub lent-rest : take (length l - i) (drop i l) ≡ drop i l
   lent-rest = take-all (length l - i) (drop i l) (omega (arith, length-drop i l))
-
-  pub distinct-step : i < length l → distinct (drop i l) ≡ (not (member (getD l i 0) (drop (i + 1) l)) && distinct (drop (i + 1) l))
-  unfolding distinct
-  distinct-step h = rw (add-one i, drop-cons l i 0 h)
-
-  pub distinct-end : length l ≤ i → distinct (drop i l) ≡ true
-  unfolding distinct
-  distinct-end h = rw (drop-of-length-le l h)

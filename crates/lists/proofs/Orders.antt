@@ -214,7 +214,7 @@ module _ (key : ℕ → ℕ) where
   abbrev pub Rising : List ℕ → Type 0
   Rising l = Pairwise (λ x y. key x ≤ key y) l
 
-  rising-insert : (y : ℕ) (l : List ℕ) → Rising l → Rising (insertBy key y l)
+  pub rising-insert : (y : ℕ) (l : List ℕ) → Rising l → Rising (insertBy key y l)
   unfolding insertBy times
   rising-insert y [] p = ((λ v t. absurd (omega arith)), tt)
   rising-insert y (v ∷ l) p = go (ltb (key y) (key v)) refl (rising-insert y l (p .1))

@@ -1,8 +1,10 @@
 -- Laws of rows, and of tests and counts below a bound.
-use Prim.Native.Nat.{ℕ, zero, suc, _+_, _-_, _≤_, _<_, max}
-use mathlib.Core.Path.{_≡_, refl, sym, ap, _∙_}
-use mathlib.Core.Bool.{Bool, true, false, true≢false}
+use Prim.Native.Nat.{ℕ, zero, suc, _+_, _-_, _*_, _≤_, _<_, max}
+use mathlib.Core.Path.{_≡_, refl, sym, ap, ap₂, _∙_}
+use mathlib.Core.Bool.{Bool, true, false, _&&_, and-assoc, true≢false}
+use mathlib.Core.Bool as bool
 use mathlib.Core.List.{List, [], _∷_, _++_, map, append-nil, append-assoc}
+use native.Mathlib.Nat.{add-zero, add-suc, zero-mul, suc-mul}
 use native.Mathlib.Numerals.{add-one}
 use native.Mathlib.Omega.{arith}
 use native.Mathlib.Decide.{ℕ-discrete}
@@ -73,6 +75,23 @@ below-fails n t k h e = go (allBelow n t) refl
     go : (s : Bool) → allBelow n t ≡ s → allBelow n t ≡ false
     go true q = absurd (true≢false (sym (all-below n t q k h) ∙ e))
     go false q = q
+
+-- tests that agree below a bound
+pub below-alike : (n : ℕ) (s t : ℕ → Bool) → ((k : ℕ) → k < n → s k ≡ t k) → allBelow n s ≡ allBelow n t
+unfolding allBelow
+below-alike zero s t h = refl
+below-alike (suc n) s t h = ap₂ (λ (a b : Bool). a && b) (below-alike n s t (λ k g. h k (omega arith))) (h n (omega arith))
+
+-- a bound in two parts, and one that is a number of rows
+pub below-append : (m n : ℕ) (t : ℕ → Bool) → allBelow (m + n) t ≡ (allBelow m t && allBelow n (λ k. t (m + k)))
+unfolding allBelow
+below-append m zero t = rw add-zero (sym (bool.and-true (allBelow m t)))
+below-append m (suc n) t = rw (add-suc, below-append m n t) (and-assoc (allBelow m t) (allBelow n (λ k. t (m + k))) (t (m + n)))
+
+pub below-rows : (rows width : ℕ) (t : ℕ → Bool) → allBelow (rows * width) t ≡ allBelow rows (λ j. allBelow width (λ k. t (j * width + k)))
+unfolding allBelow
+below-rows zero width t = rw zero-mul
+below-rows (suc rows) width t = rw suc-mul (below-append (rows * width) width t ∙ rw (below-rows rows width t))
 
 -- ---- counts below a bound
 

@@ -8,16 +8,15 @@ use native.Mathlib.Nat.{mul-le-mul-right, le-refl}
 use native.Mathlib.Numerals.{add-one}
 use native.Mathlib.Omega.{arith}
 use lib.ListN.{length, replicate, length-replicate}
-use lib.Seq.{take-all}
 use lib.Dec.{eqb}
 use borrow.Author.Tests.{eq-eqb, ne-eqb}
-use Rattle.lists.specs.Lists.{part, splice}
+use Rattle.lists.specs.Lists.{splice}
 use Rattle.lists.proofs.Windows.{part-part}
 use Rattle.model.specs.declared.Sizes.{Sizes}
 use Rattle.model.specs.Sizes.{bucketSize, body, flashSize, spareSize, diskSize}
 use Rattle.model.specs.Spare.{blank, ordinal, pages, offset, extent}
 use Rattle.model.specs.Stores.{tagOf, bucketBytes}
-use Rattle.model.specs.Image.{pageFits, endsLog, logBytes, mergeTo, merge}
+use Rattle.model.specs.Image.{pageFits, endsLog, logBytes, mergeTo}
 use Rattle.model.proofs.Formed.{Formed, formed-of, page-fields, log-pages, log-inside}
 use Rattle.model.proofs.MergeBytes.{length-mergeTo}
 use Rattle.geometry.specs.Geometry.{device}
@@ -50,11 +49,6 @@ module _ {z : Sizes} {flash spare : List ℕ} (readable : Readable z flash spare
       (length-mergeTo z (device flash spare disk) (omega (arith, readable .limits .s-low))
       (record { flash-is = readable .flash-length; spare-is = readable .spare-length; disk-is = length-replicate (diskSize z) 0 })
       (formed disk) c bucket base e n h)
-
-  -- the whole merge, of the whole base
-  pub merged-whole : (base : List ℕ) → length base ≡ bucketSize z → part (merge z (chip flash spare) c base) 0 (length base) ≡ merge z (chip flash spare) c base
-  unfolding part merge
-  merged-whole base e = take-all (length base) (merge z (chip flash spare) c base) (omega (arith, e, merged-length base e (z .p) (le-refl (z .p))))
 
   -- page k says the fields f
   module _ {k : ℕ} (page : k < z .p) {f : Fields} (says : seen (tagOf z (spareOnly spare) c k) ≡ Programmed f) where

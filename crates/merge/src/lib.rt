@@ -97,13 +97,3 @@ pub fn merge_range(z: Sizes, c: usize, from: usize, flash: &[u8], spare: &[u8], 
         k += 1;
     }
 }
-
-// The bucket's complete logs, laid over the whole base.
-pub fn merge_into(z: Sizes, c: usize, flash: &[u8], spare: &[u8], base: &mut [u8])
-    requires { ⌜ Readable z (now flash) (now spare) ⌝ }
-    requires { ⌜ c < body z ⌝ }
-    requires { ⌜ length (now base) ≡ bucketSize z ⌝ }
-    ensures { λ _. ⌜ now (base .exit) ≡ merge z (chip (now (flash .entry)) (now (spare .entry))) c (now (base .entry)) ⌝ }
-{
-    merge_range(z, c, 0, flash, spare, base);
-}

@@ -1,13 +1,12 @@
 -- A tally: how often each number stands among the first places of an array.
-use Prim.Native.Nat.{ℕ, zero, suc, _+_, _≤_, _<_}
-use mathlib.Core.Path.{_≡_, refl, ap, ap₂, _∙_}
-use mathlib.Core.Bool.{Bool, _&&_}
+use Prim.Native.Nat.{ℕ, _+_, _≤_, _<_}
+use mathlib.Core.Path.{_≡_, ap, _∙_}
 use mathlib.Core.List.{List, [], _∷_}
 use native.Mathlib.Omega.{arith}
 use native.Mathlib.Decide.{ℕ-discrete}
 use lib.ListN.{length, take, getD, set}
 use lib.Seq.{getD-set-same, getD-set-other}
-use Rattle.lists.specs.Lists.{allBelow, times}
+use Rattle.lists.specs.Lists.{times}
 use Rattle.lists.proofs.Arrays.{done-more}
 use Rattle.lists.proofs.Counts.{times-self, times-other, times-one, times-cons, times-append}
 
@@ -33,9 +32,3 @@ tally-more items counts i h inside told x g = go (ℕ-discrete x (getD items i 0
         ap (λ (k : ℕ). getD (set counts y (getD counts y 0 + 1)) k 0) e
         ∙ (getD-set-same counts y (getD counts y 0 + 1) 0 inside ∙ (let o = one-more in omega (arith, told x g, ap (λ (k : ℕ). getD counts k 0) e, ap (λ (k : ℕ). times x (k ∷ [])) e, times-self x)))
     go (no n) = getD-set-other counts y x (getD counts y 0 + 1) 0 n ∙ omega (arith, told x g, one-more, times-other x y n)
-
--- tests that agree below a bound
-pub tests-alike : (n : ℕ) (s t : ℕ → Bool) → ((k : ℕ) → k < n → s k ≡ t k) → allBelow n s ≡ allBelow n t
-unfolding allBelow
-tests-alike zero s t h = refl
-tests-alike (suc n) s t h = ap₂ (λ (a b : Bool). a && b) (tests-alike n s t (λ k g. h k (omega arith))) (h n (omega arith))

@@ -1,2 +1,3 @@
-pub mod Sorting
+pub mod Ranks
+pub mod Differ
 pub mod Next

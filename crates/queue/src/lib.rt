@@ -17,6 +17,12 @@ pub struct Queue {
     pub len: usize,
 }
 
+// Whether a back-end bucket is in a queue, and its cache bucket, 0 where there is none.
+pub struct Found {
+    pub held: bool,
+    pub cache: u8,
+}
+
 // A place in a queue.
 pub fn entry(back: u16, cache: u8, priority: u8) -> Entry
     ensures { λ r. ⌜ r ≡ entry back cache priority ⌝ }
@@ -112,18 +118,32 @@ impl Queue {
         i < n
     }
 
-    // Its cache bucket, 0 where there is none.
-    pub fn cache_of(self, b: u16) -> u8
-        ensures { λ r. ⌜ r ≡ cacheOf b (entriesOf self) ⌝ }
+    // The same with its cache bucket, by one search.
+    pub fn find(self, b: u16) -> Found
+        ensures { λ r. ⌜ (r .held ≡ holds b (entriesOf self)) × (r .cache ≡ cacheOf b (entriesOf self)) ⌝ }
     {
         let n = self.used();
         let items = self.items;
         let i = place(items, 0, n, b);
         if n <= i {
-            return 0;
+            return Found {
+                held: false,
+                cache: 0,
+            };
         }
         let e = items[i];
-        e.cache
+        Found {
+            held: true,
+            cache: e.cache,
+        }
+    }
+
+    // Its cache bucket, 0 where there is none.
+    pub fn cache_of(self, b: u16) -> u8
+        ensures { λ r. ⌜ r ≡ cacheOf b (entriesOf self) ⌝ }
+    {
+        let found = self.find(b);
+        found.cache
     }
 
     // All entries but those of b.
@@ -294,9 +314,13 @@ fn distinct_in(items: [Entry; 64], n: usize) -> bool
     while i < n {
         let e = items[i];
         i += 1;
-        let again = place(items, i, n, e.back);
-        if again < n {
-            return false;
+        let mut j = i;
+        while j < n {
+            let f = items[j];
+            if f.back == e.back {
+                return false;
+            }
+            j += 1;
         }
     }
     true

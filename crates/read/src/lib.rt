@@ -107,7 +107,7 @@ fn copy_by(
     requires { ⌜ (s .next ≤ 4294967294) × (length (now bytes) ≡ bucketSize (s .sizes)) ⌝ }
     ensures { λ r. ⌜ handedBack (device (now (flash .exit)) (now (spare .exit)) (now (disk .exit))) (now (buffer .exit)) r ≡ handed s (carryOut allowance (readCall b offset (now (buffer .entry))) (viewOf s) (device (now (flash .entry)) (now (spare .entry)) (now (disk .entry))) (copyOf (s .sizes) b (merged (s .sizes) (viewOf s) (device (now (flash .entry)) (now (spare .entry)) (now (disk .entry))) b) (viewOf s) (device (now (flash .entry)) (now (spare .entry)) (now (disk .entry))))) ⌝ }
 {
-    gather::merged_into(s, b, flash, spare, disk, bytes);
+    gather::merged_range(s, b, 0, flash, spare, disk, bytes);
     let whole = Meter::whole(allowance);
     let turn = make_copy(whole, s, b, bytes, flash, spare, disk);
     let left = turn.meter;

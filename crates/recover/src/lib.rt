@@ -1,7 +1,4 @@
 // Recover: the state from the chip's spare area alone, and the units of what the queues have no place for.
-use classes::CopyClasses;
-use classes::Kind;
-use classes::WriteClasses;
 use fifo::Fifo;
 use meter::Meter;
 use model::Answer;
@@ -12,21 +9,24 @@ use queue::Queue;
 use state::State;
 ghost use mathlib.Core.Path.{_≡_};
 ghost use mathlib.Core.Bool.{true};
-ghost use mathlib.Core.List.{[], map};
-ghost use Prim.Native.Nat.{_≤_, _<_};
+ghost use mathlib.Core.List.{[], map, _++_};
+ghost use Prim.Native.Nat.{_+_, _≤_, _<_};
 ghost use lib.ListN.{length};
-ghost use Rattle.model.specs.Image.{wellFormed};
-ghost use Rattle.model.specs.Recover.{buckets, isDroppedWrite, isDroppedCopy, isOldCopy, recover};
+ghost use Rattle.lists.specs.Lists.{all};
+ghost use Rattle.model.specs.Sizes.{body};
+ghost use Rattle.model.specs.Image.{isWrite, wellFormed};
+ghost use Rattle.model.specs.State.{isBelow};
+ghost use Rattle.model.specs.Recover.{isChosen, isDroppedWrite, isDroppedCopy, recover};
 ghost use Rattle.model.specs.Calls.{recoverCall, carryOut, call};
 ghost use Rattle.geometry.specs.Geometry.{device};
 ghost use Rattle.fifo.specs.View.{listOf};
 ghost use Rattle.queue.specs.View.{entriesOf};
 ghost use Rattle.state.specs.View.{viewOf};
 ghost use Rattle.image.specs.Chip.{Chip, spareOnly};
-ghost use Rattle.classes.specs.Classes.{Within, WriteLists, CopyLists};
-ghost use Rattle.rescued.specs.Sources.{Recoverable};
+ghost use Rattle.classes.specs.Columns.{inOrder, column, Columns};
+ghost use Rattle.rescue.specs.Sources.{Recoverable};
 ghost use Rattle.outcome.specs.Handed.{handedBack, handed};
-ghost use Rattle.recover.specs.Places.{place};
+ghost use Rattle.recover.specs.Places.{place, picked, differing};
 
 // The bucket's place in a queue. The write queue counts its blank pages.
 fn place(z: Sizes, c: u8, counted: bool, spare: &[u8]) -> Entry
@@ -43,51 +43,97 @@ fn place(z: Sizes, c: u8, counted: bool, spare: &[u8]) -> Entry
     }
 }
 
-// A queue of the list's buckets.
-fn placed(z: Sizes, list: Fifo, counted: bool, spare: &[u8]) -> Queue
+// A queue of the buckets that the column names and the dropped ones do not.
+fn placed(
+    z: Sizes,
+    order: &[u8],
+    column: &[u16],
+    dropped: &[u16],
+    counted: bool,
+    spare: &[u8],
+) -> Queue
     requires { ⌜ Chip z (now spare) ⌝ }
-    requires { ⌜ Within z (listOf list) × (length (listOf list) ≤ 64) ⌝ }
-    ensures { λ r. ⌜ entriesOf r ≡ map (place z (spareOnly (now (spare .entry))) counted) (listOf list) ⌝ }
+    requires { ⌜ all (isBelow (body z)) (now order) ≡ true ⌝ }
+    requires { ⌜ (length (now column) ≡ length (now order)) × (length (now dropped) ≡ length (now order)) ⌝ }
+    requires { ⌜ length (differing (now column) (now dropped) (now order)) ≤ 64 ⌝ }
+    ensures { λ r. ⌜ entriesOf r ≡ map (place z (spareOnly (now (spare .entry))) counted) (differing (now (column .entry)) (now (dropped .entry)) (now (order .entry))) ⌝ }
 {
-    let n = list.used();
-    let items = list.items;
-    let mut queue = Queue::empty();
+    let none = Queue::empty();
+    let mut items = none.items;
+    let mut n = 0;
     let mut i = 0;
-    while i < n {
-        let c = items[i];
-        let e = place(z, c, counted, spare);
-        queue = queue.push(e);
+    while i < order.len() {
+        if column[i] != dropped[i] {
+            items[n] = place(z, order[i], counted, spare);
+            n += 1;
+        }
         i += 1;
     }
-    queue
+    Queue { items, len: n }
+}
+
+// The list, and behind it the buckets that the column names.
+fn gather(order: &[u8], column: &[u16], list: Fifo) -> Fifo
+    requires { ⌜ length (now column) ≡ length (now order) ⌝ }
+    requires { ⌜ length (listOf list) + length (picked (now column) (now order)) ≤ 256 ⌝ }
+    ensures { λ r. ⌜ listOf r ≡ listOf list ++ picked (now (column .entry)) (now (order .entry)) ⌝ }
+{
+    let mut n = list.used();
+    let mut items = list.items;
+    let mut i = 0;
+    while i < order.len() {
+        if column[i] != classes::NOWHERE {
+            items[n] = order[i];
+            n += 1;
+        }
+        i += 1;
+    }
+    Fifo { items, len: n }
 }
 
 // Superseded and incomplete copies, dropped copies, dropped Write buckets, each by epoch.
-fn retired(z: Sizes, writes: Fifo, copies: Fifo, old: Fifo, spare: &[u8]) -> Fifo
+fn retired(
+    z: Sizes,
+    order: &[u8],
+    dropped_writes: &[u16],
+    copies: &[u16],
+    dropped_copies: &[u16],
+    spare: &[u8],
+) -> Fifo
     requires { ⌜ Chip z (now spare) ⌝ }
-    requires { ⌜ (listOf writes ≡ buckets z (spareOnly (now spare)) (isDroppedWrite z (spareOnly (now spare)))) × (listOf copies ≡ buckets z (spareOnly (now spare)) (isDroppedCopy z (spareOnly (now spare)))) × (listOf old ≡ buckets z (spareOnly (now spare)) (isOldCopy z (spareOnly (now spare)))) ⌝ }
+    requires { ⌜ wellFormed z (spareOnly (now spare)) ≡ true ⌝ }
+    requires { ⌜ now order ≡ inOrder z (spareOnly (now spare)) ⌝ }
+    requires { ⌜ now «dropped_writes» ≡ column z (spareOnly (now spare)) (isDroppedWrite z (spareOnly (now spare))) ⌝ }
+    requires { ⌜ (now copies ≡ column z (spareOnly (now spare)) (isChosen z (spareOnly (now spare)))) × (now «dropped_copies» ≡ column z (spareOnly (now spare)) (isDroppedCopy z (spareOnly (now spare)))) ⌝ }
     ensures { λ r. ⌜ listOf r ≡ recover z (spareOnly (now (spare .entry))) .state .gc ⌝ }
 {
-    let first = order::by_epoch(z, old, spare);
-    let second = order::by_epoch(z, copies, spare);
-    let third = order::by_epoch(z, writes, spare);
-    let rest = second.append(third);
-    first.append(rest)
+    let n = order.len();
+    let mut old = classes::blank_column();
+    classes::old_column(z, order, copies, spare, &mut old[..n]);
+    let first = gather(order, &old[..n], Fifo::empty());
+    let second = gather(order, dropped_copies, first);
+    gather(order, dropped_writes, second)
 }
 
 // The state that a finished recovery leaves.
-fn recovered(z: Sizes, writes: WriteClasses, copies: CopyClasses, spare: &[u8]) -> State
+fn recovered(
+    z: Sizes,
+    order: &[u8],
+    writes: &[u16],
+    dropped_writes: &[u16],
+    copies: &[u16],
+    dropped_copies: &[u16],
+    spare: &[u8],
+) -> State
     requires { ⌜ Chip z (now spare) ⌝ }
-    requires { ⌜ WriteLists z (spareOnly (now spare)) writes × CopyLists z (spareOnly (now spare)) copies ⌝ }
     requires { ⌜ wellFormed z (spareOnly (now spare)) ≡ true ⌝ }
+    requires { ⌜ Columns z (spareOnly (now spare)) (now order) (now writes) (now «dropped_writes») (now copies) (now «dropped_copies») ⌝ }
     ensures { λ r. ⌜ viewOf r ≡ recover z (spareOnly (now (spare .entry))) .state ⌝ }
 {
-    let read_list = order::by_epoch(z, copies.kept, spare);
-    let reads = placed(z, read_list, false, spare);
-    let write_list = order::by_epoch(z, writes.kept, spare);
-    let queued = placed(z, write_list, true, spare);
-    let gc = retired(z, writes.dropped, copies.dropped, copies.old, spare);
-    let free = classes::buckets(z, Kind::Blank, spare);
+    let reads = placed(z, order, copies, dropped_copies, false, spare);
+    let queued = placed(z, order, writes, dropped_writes, true, spare);
+    let gc = retired(z, order, dropped_writes, copies, dropped_copies, spare);
+    let free = classes::buckets(z, false, spare);
     let top = fits::top_epoch(z, spare);
     State {
         sizes: z,
@@ -102,6 +148,123 @@ fn recovered(z: Sizes, writes: WriteClasses, copies: CopyClasses, spare: &[u8]) 
 }
 
 // The state is that of the spare area before the first store.
+fn recover_by(
+    s: State,
+    z: Sizes,
+    allowance: usize,
+    order: &[u8],
+    writes: &[u16],
+    dropped_writes: &[u16],
+    copies: &[u16],
+    dropped_copies: &[u16],
+    flash: &mut [u8],
+    spare: &mut [u8],
+    disk: &mut [u8],
+) -> Outcome
+    requires { ⌜ Recoverable z (now flash) (now spare) (now disk) ⌝ }
+    requires { ⌜ Columns z (spareOnly (now spare)) (now order) (now writes) (now «dropped_writes») (now copies) (now «dropped_copies») ⌝ }
+    ensures { λ r. ⌜ handedBack (device (now (flash .exit)) (now (spare .exit)) (now (disk .exit))) [] r ≡ handed s (carryOut allowance (recoverCall z) (viewOf s) (device (now (flash .entry)) (now (spare .entry)) (now (disk .entry))) (recover z (device (now (flash .entry)) (now (spare .entry)) (now (disk .entry))))) ⌝ }
+{
+    let new = recovered(
+        z,
+        order,
+        writes,
+        dropped_writes,
+        copies,
+        dropped_copies,
+        spare,
+    );
+    let whole = Meter::whole(allowance);
+    let after = rescue::rescue(
+        whole,
+        z,
+        order,
+        writes,
+        dropped_writes,
+        copies,
+        dropped_copies,
+        flash,
+        spare,
+        disk,
+    );
+    outcome::finish(after, allowance, Answer::Done, s, new)
+}
+
+// Which copies are kept and which are dropped, beside the Write buckets.
+fn recover_copies(
+    s: State,
+    z: Sizes,
+    allowance: usize,
+    order: &[u8],
+    writes: &[u16],
+    dropped_writes: &[u16],
+    flash: &mut [u8],
+    spare: &mut [u8],
+    disk: &mut [u8],
+) -> Outcome
+    requires { ⌜ Recoverable z (now flash) (now spare) (now disk) ⌝ }
+    requires { ⌜ now order ≡ inOrder z (spareOnly (now spare)) ⌝ }
+    requires { ⌜ (now writes ≡ column z (spareOnly (now spare)) (isWrite z (spareOnly (now spare)))) × (now «dropped_writes» ≡ column z (spareOnly (now spare)) (isDroppedWrite z (spareOnly (now spare)))) ⌝ }
+    ensures { λ r. ⌜ handedBack (device (now (flash .exit)) (now (spare .exit)) (now (disk .exit))) [] r ≡ handed s (carryOut allowance (recoverCall z) (viewOf s) (device (now (flash .entry)) (now (spare .entry)) (now (disk .entry))) (recover z (device (now (flash .entry)) (now (spare .entry)) (now (disk .entry))))) ⌝ }
+{
+    let n = order.len();
+    let mut copies = classes::blank_column();
+    let mut dropped = classes::blank_column();
+    classes::copy_columns(
+        z,
+        order,
+        dropped_writes,
+        spare,
+        &mut copies[..n],
+        &mut dropped[..n],
+    );
+    recover_by(
+        s,
+        z,
+        allowance,
+        order,
+        writes,
+        dropped_writes,
+        &copies[..n],
+        &dropped[..n],
+        flash,
+        spare,
+        disk,
+    )
+}
+
+// Which Write buckets are kept and which are dropped.
+fn recover_writes(
+    s: State,
+    z: Sizes,
+    allowance: usize,
+    order: &[u8],
+    flash: &mut [u8],
+    spare: &mut [u8],
+    disk: &mut [u8],
+) -> Outcome
+    requires { ⌜ Recoverable z (now flash) (now spare) (now disk) ⌝ }
+    requires { ⌜ now order ≡ inOrder z (spareOnly (now spare)) ⌝ }
+    ensures { λ r. ⌜ handedBack (device (now (flash .exit)) (now (spare .exit)) (now (disk .exit))) [] r ≡ handed s (carryOut allowance (recoverCall z) (viewOf s) (device (now (flash .entry)) (now (spare .entry)) (now (disk .entry))) (recover z (device (now (flash .entry)) (now (spare .entry)) (now (disk .entry))))) ⌝ }
+{
+    let n = order.len();
+    let mut writes = classes::blank_column();
+    let mut dropped = classes::blank_column();
+    classes::write_columns(z, order, spare, &mut writes[..n], &mut dropped[..n]);
+    recover_copies(
+        s,
+        z,
+        allowance,
+        order,
+        &writes[..n],
+        &dropped[..n],
+        flash,
+        spare,
+        disk,
+    )
+}
+
+// The used buckets are put in order once, for all lists and stores.
 fn recover_chip(
     s: State,
     z: Sizes,
@@ -113,12 +276,10 @@ fn recover_chip(
     requires { ⌜ Recoverable z (now flash) (now spare) (now disk) ⌝ }
     ensures { λ r. ⌜ handedBack (device (now (flash .exit)) (now (spare .exit)) (now (disk .exit))) [] r ≡ handed s (carryOut allowance (recoverCall z) (viewOf s) (device (now (flash .entry)) (now (spare .entry)) (now (disk .entry))) (recover z (device (now (flash .entry)) (now (spare .entry)) (now (disk .entry))))) ⌝ }
 {
-    let writes = classes::write_classes(z, spare);
-    let copies = classes::copy_classes(z, writes.dropped, spare);
-    let new = recovered(z, writes, copies, spare);
-    let whole = Meter::whole(allowance);
-    let after = rescue::rescue(whole, z, writes, copies, flash, spare, disk);
-    outcome::finish(after, allowance, Answer::Done, s, new)
+    let used = classes::in_order(z, spare);
+    let n = used.used();
+    let order = used.items;
+    recover_writes(s, z, allowance, &order[..n], flash, spare, disk)
 }
 
 // The entry. The sizes are its own: the state's are not looked at.

@@ -1,2 +1,4 @@
-pub mod Rescues
+pub mod Places
+pub mod Standing
+pub mod Bytes
 pub mod Reached

@@ -2,77 +2,89 @@
 use Prim.Native.Nat.{ℕ, _+_, _≤_, _<_}
 use mathlib.Core.Path.{_≡_, refl, sym, ap, _∙_}
 use mathlib.Core.Bool.{true}
-use mathlib.Core.List.{List}
+use mathlib.Core.List.{List, [], _∷_, _++_}
 use native.Mathlib.Omega.{arith}
 use lib.ListN.{length}
 use Rattle.lists.specs.Lists.{row, keep, below, member, concatMap}
 use Rattle.lists.proofs.Rows.{concat-more}
 use Rattle.model.specs.declared.Sizes.{Sizes}
-use Rattle.model.specs.Sizes.{Device, bucketSize}
+use Rattle.model.specs.Sizes.{Device, diskSize}
 use Rattle.model.specs.Stores.{Store, diskBytes}
-use Rattle.model.specs.Recover.{isRescued, rescued, rescueStores}
-use Rattle.model.proofs.Frames.{Lengths}
+use Rattle.model.specs.Recover.{isDroppedWrite, isRescued, rescued, rescueStores}
+use Rattle.geometry.specs.Geometry.{device}
+use Rattle.geometry.proofs.Passed.{lengths-of}
+use Rattle.image.specs.Chip.{spareOnly}
+use Rattle.merge.specs.Window.{Readable}
 use Rattle.meter.specs.declared.Meter.{Meter}
-use Rattle.meter.specs.Run.{Run, runAll}
+use Rattle.meter.specs.Run.{Run, running, runAll}
 use Rattle.meter.proofs.Runs.{run-append}
 use Rattle.units.proofs.Kept.{Kept, units-kept}
 use Rattle.order.specs.Order.{nextOf}
-use Rattle.order.proofs.Next.{next, next-passes, next-kept, keep-more}
-use Rattle.rescue.proofs.Rescues.{stores-same}
+use Rattle.lists.proofs.Filters.{take-more}
+use Rattle.order.proofs.Next.{next, next-passes, next-kept}
+use Rattle.classes.specs.Columns.{column}
+use Rattle.rescue.specs.Beside.{isUnsaved}
+use Rattle.rescue.proofs.Standing.{rescued-stands}
+use Rattle.rescue.proofs.Bytes.{same-rescued, rescued-size, stores-same}
 
--- from each rescued one to the next, where l has them all
-module _ (z : Sizes) (d : Device) (l : List ℕ) (same : (x : ℕ) → x < z .b → isRescued z d x ≡ member x l) (from : ℕ) {r : ℕ} (e : r ≡ nextOf from (z .b) l) where
+-- the next of two lists
+pub next-both : (from best : ℕ) (l m : List ℕ) → nextOf from (nextOf from best l) m ≡ nextOf from best (l ++ m)
+unfolding nextOf
+next-both from best [] m = refl
+next-both from best (x ∷ l) m = next-both from _ l m
+
+-- from each rescued one to the next, by the columns of the flushed and of the unsaved
+module _ {z : Sizes} {flash spare : List ℕ} (readable : Readable z flash spare) (disk : List ℕ) {flushed unsaved : List ℕ}
+    (flushed-are : flushed ≡ column z (spareOnly spare) (isDroppedWrite z (spareOnly spare))) (unsaved-are : unsaved ≡ column z (spareOnly spare) (isUnsaved z (spareOnly spare)))
+    (from : ℕ) {r : ℕ} (e : r ≡ nextOf from (z .b) (flushed ++ unsaved)) where
+  abbrev d : Device
+  d = device flash spare disk
+
+  same : (x : ℕ) → x < z .b → isRescued z d x ≡ member x (flushed ++ unsaved)
+  same x h = sym (same-rescued z d x) ∙ rescued-stands z (spareOnly spare) x (omega (arith, readable .limits .b-high)) ∙ rw (flushed-are, unsaved-are)
+
   pub next-high : r ≤ z .b
-  next-high = rw e (next from (z .b) l .high)
+  next-high = rw e (next from (z .b) (flushed ++ unsaved) .high)
 
   pub next-low : from ≤ z .b → from ≤ r
-  next-low h = rw e (next from (z .b) l .low h)
+  next-low h = rw e (next from (z .b) (flushed ++ unsaved) .low h)
 
   pub next-rescued : r < z .b → isRescued z d r ≡ true
-  next-rescued h = rw e (next-passes (isRescued z d) l (z .b) same from (rw e at h))
+  next-rescued h = rw e (next-passes (isRescued z d) (flushed ++ unsaved) (z .b) same from (rw e at h))
 
   pub none-between : from ≤ z .b → keep (isRescued z d) (below r) ≡ keep (isRescued z d) (below from)
-  none-between h = rw e (next-kept (isRescued z d) l (z .b) same from h)
+  none-between h = rw e (next-kept (isRescued z d) (flushed ++ unsaved) (z .b) same from h)
 
-module _ (z : Sizes) (d : Device) (m : Meter) where
-  abbrev start : Run
-  start = record { device = d; meter = m }
+module _ (z : Sizes) (flash spare disk : List ℕ) (m : Meter) where
+  abbrev entry : Device
+  entry = device flash spare disk
 
   -- the stores for the rescued back-end buckets below b
   abbrev storesBelow : ℕ → List Store
-  storesBelow b = concatMap (rescueStores z d) (keep (isRescued z d) (below b))
+  storesBelow b = concatMap (rescueStores z entry) (keep (isRescued z entry) (below b))
 
-  -- their units were asked for, and chip and disk are as they were from b on
-  pub record Reached (b : ℕ) (r : Run) : Type 0 where
-    pub run-is : r ≡ runAll z (storesBelow b) start
-    pub flash-same : r .device .flash ≡ d .flash
-    pub spare-same : r .device .spare ≡ d .spare
-    pub disk-same : (x : ℕ) → b ≤ x → diskBytes z (r .device) x ≡ diskBytes z d x
+  -- their units were asked for, and the disk is as it was from b on
+  pub record Reached (b : ℕ) (now : List ℕ) (left : Meter) : Type 0 where
+    pub run-is : running flash spare now left ≡ runAll z (storesBelow b) (running flash spare disk m)
+    pub disk-same : (x : ℕ) → b ≤ x → diskBytes z (device flash spare now) x ≡ diskBytes z entry x
 
-  pub reached-first : (b : ℕ) → keep (isRescued z d) (below b) ≡ keep (isRescued z d) (below 0) → Reached b start
+  pub reached-first : (b : ℕ) → keep (isRescued z entry) (below b) ≡ keep (isRescued z entry) (below 0) → Reached b disk m
   unfolding runAll concatMap keep below row
-  reached-first b e = record { run-is = rw e; flash-same = refl; spare-same = refl; disk-same = λ x h. refl }
-
-  rescue-kept : (b : ℕ) (r : Run) → b < z .b → length (rescued z (r .device) b) ≡ bucketSize z → Lengths z (r .device) → Kept z b (r .device) (runAll z (rescueStores z (r .device) b) r .device)
-  unfolding rescueStores
-  rescue-kept b r hb size lens = units-kept z b (rescued z (r .device) b) hb size r lens
+  reached-first b e = record { run-is = rw e; disk-same = λ x h. refl }
 
   -- one more, and on to the next
-  pub reached-more : (b n : ℕ) (r s : Run) → Reached b r → b < z .b → isRescued z d b ≡ true → Lengths z (r .device) → length (rescued z (r .device) b) ≡ bucketSize z
-      → s ≡ runAll z (rescueStores z (r .device) b) r → b < n → keep (isRescued z d) (below n) ≡ keep (isRescued z d) (below (b + 1)) → Reached n s
-  reached-more b n r s h hb t lens size e k skip = record {
-    run-is = run-is;
-    flash-same = ap (λ (v : Run). v .device .flash) e ∙ frame .flash ∙ h .flash-same;
-    spare-same = ap (λ (v : Run). v .device .spare) e ∙ frame .spare ∙ h .spare-same;
+  pub reached-more : Readable z flash spare → (b n : ℕ) (now after : List ℕ) (left rest : Meter) → Reached b now left → b < z .b → isRescued z entry b ≡ true
+      → length now ≡ diskSize z → running flash spare after rest ≡ runAll z (rescueStores z (device flash spare now) b) (running flash spare now left)
+      → b < n → keep (isRescued z entry) (below n) ≡ keep (isRescued z entry) (below (b + 1)) → Reached n after rest
+  unfolding rescueStores
+  reached-more readable b n now after left rest h hb t len e k skip = record {
+    run-is = e ∙ ap (λ (ss : List Store). runAll z ss (running flash spare now left)) (stores-same z flash spare disk now b (h .disk-same b (omega arith)))
+        ∙ ap (runAll z (rescueStores z entry b)) (h .run-is)
+        ∙ sym (run-append z (storesBelow b) (rescueStores z entry b) (running flash spare disk m))
+        ∙ ap (λ (ss : List Store). runAll z ss (running flash spare disk m)) (sym (ap (concatMap (rescueStores z entry)) (skip ∙ take-more (isRescued z entry) b t) ∙ concat-more (rescueStores z entry) (keep (isRescued z entry) (below b)) b));
     disk-same = λ x q. ap (λ (v : Run). diskBytes z (v .device) x) e ∙ frame .others x (λ v. omega arith) ∙ h .disk-same x (omega arith);
   }
     where
-      frame : Kept z b (r .device) (runAll z (rescueStores z (r .device) b) r .device)
-      frame = rescue-kept b r hb size lens
-
-      run-is : s ≡ runAll z (storesBelow n) start
-      run-is =
-          e ∙ ap (λ (ss : List Store). runAll z ss r) (stores-same z d (r .device) b (h .flash-same) (h .spare-same) (h .disk-same b (omega arith)))
-          ∙ ap (runAll z (rescueStores z d b)) (h .run-is)
-          ∙ sym (run-append z (storesBelow b) (rescueStores z d b) start)
-          ∙ ap (λ (ss : List Store). runAll z ss start) (sym (ap (concatMap (rescueStores z d)) (skip ∙ keep-more (isRescued z d) b t) ∙ concat-more (rescueStores z d) (keep (isRescued z d) (below b)) b))
+      frame : Kept z b (device flash spare now) (runAll z (rescueStores z (device flash spare now) b) (running flash spare now left) .device)
+      frame = units-kept z b (rescued z (device flash spare now) b) hb (rescued-size readable now len b hb (same-rescued z entry b ∙ t)) (running flash spare now left)
+          (lengths-of (record { flash-length = readable .flash-length; spare-length = readable .spare-length; disk-length = len }))

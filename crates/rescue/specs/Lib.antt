@@ -1,1 +1,2 @@
-pub mod Numbers
+pub mod Sources
+pub mod Beside

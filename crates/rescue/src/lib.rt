@@ -1,189 +1,280 @@
 // The units that recovery writes: all of each rescued back-end bucket, in rising order.
-use classes::CopyClasses;
-use classes::WriteClasses;
-use fifo::Fifo;
+// The bytes are laid where they belong, in the disk's part for the units that the allowance lets be made: there is no work area.
 use meter::Meter;
 use model::Sizes;
 ghost use mathlib.Core.Path.{_≡_};
-ghost use mathlib.Core.List.{map, _++_};
-ghost use Prim.Native.Nat.{_≤_, _<_};
-ghost use lib.ListN.{length};
-ghost use Rattle.model.specs.Sizes.{bucketSize};
-ghost use Rattle.model.specs.Image.{backOf};
-ghost use Rattle.model.specs.Recover.{rescued, rescueStores, recover};
+ghost use mathlib.Core.Bool.{true};
+ghost use mathlib.Core.List.{List, _++_};
+ghost use Prim.Native.Nat.{ℕ, _*_, _≤_, _<_};
+ghost use lib.Dec.{eqb};
+ghost use lib.ListN.{length, take, getD};
+ghost use Rattle.lists.specs.Lists.{if_then_else_, all, head, member, part};
+ghost use Rattle.model.specs.Sizes.{bucketSize, flashSize, diskSize, body};
+ghost use Rattle.model.specs.Stores.{diskBytes};
+ghost use Rattle.model.specs.Image.{isDirty, merge};
+ghost use Rattle.model.specs.State.{isBelow};
+ghost use Rattle.model.specs.Recover.{isDroppedCopy, mergeAll, isRescued, rescued, rescueStores, recover};
+ghost use Rattle.model.proofs.Limits.{Limits};
 ghost use Rattle.geometry.specs.Geometry.{device, Lent};
-ghost use Rattle.meter.specs.Run.{running, runAll};
-ghost use Rattle.fifo.specs.View.{listOf};
 ghost use Rattle.image.specs.Chip.{Chip, spareOnly};
+ghost use Rattle.merge.specs.Window.{Turns, Readable, chip};
+ghost use Rattle.meter.specs.Run.{running, runAll};
 ghost use Rattle.order.specs.Order.{nextOf};
-ghost use Rattle.classes.specs.Classes.{Within, WriteLists, CopyLists};
-ghost use Rattle.rescued.specs.Sources.{Recoverable};
-ghost use Rattle.rescue.specs.Numbers.{backsOf};
+ghost use Rattle.classes.specs.Columns.{nowhere, inOrder, column, Columns};
+ghost use Rattle.rescue.specs.Sources.{Recoverable, Listed};
+ghost use Rattle.rescue.specs.Beside.{beside, isUnsaved};
 
-// Back-end buckets, as the first `count` numbers.
-pub struct Numbers {
-    pub numbers: [u16; 256],
-    pub count: usize,
-}
-
-// The back-end buckets of the list's buckets.
-fn backs(z: Sizes, list: Fifo, spare: &[u8]) -> Numbers
-    requires { ⌜ Chip z (now spare) ⌝ }
-    requires { ⌜ Within z (listOf list) ⌝ }
-    ensures { λ r. ⌜ backsOf r ≡ map (backOf z (spareOnly (now (spare .entry)))) (listOf list) ⌝ }
-    ensures { λ r. ⌜ r .count ≤ 256 ⌝ }
+// Whether the number stands in the column. With no way out of the loop it is compared with many at a time.
+fn occurs(x: u16, column: &[u16]) -> bool
+    ensures { λ r. ⌜ r ≡ member x (now (column .entry)) ⌝ }
 {
-    let n = list.used();
-    let items = list.items;
-    let mut numbers = [0u16; 256];
+    let mut found = false;
     let mut i = 0;
-    while i < n {
-        let c = items[i] as usize;
-        numbers[i] = image::back_of(z, c, spare);
+    while i < column.len() {
+        found = found | (x == column[i]);
         i += 1;
     }
-    Numbers { numbers, count: n }
+    found
 }
 
-// The smallest of both that is not below `from`, or `end`.
-fn next(flushed: Numbers, unsaved: Numbers, from: usize, end: usize) -> usize
-    requires { ⌜ (flushed .count ≤ 256) × (unsaved .count ≤ 256) ⌝ }
-    ensures { λ r. ⌜ r ≡ nextOf «from» end (backsOf flushed ++ backsOf unsaved) ⌝ }
+// The first bucket that the number stands beside; 0, if it stands nowhere.
+fn first_beside(x: u16, column: &[u16], order: &[u8]) -> u8
+    requires { ⌜ length (now column) ≡ length (now order) ⌝ }
+    ensures { λ r. ⌜ r ≡ head (beside x (now (column .entry)) (now (order .entry))) ⌝ }
 {
-    let merged = flushed.numbers;
-    let own = unsaved.numbers;
-    let first = order::next_of(merged, flushed.count, from, end);
-    order::next_of(own, unsaved.count, from, first)
+    let mut i = 0;
+    while i < column.len() {
+        if x == column[i] {
+            return order[i];
+        }
+        i += 1;
+    }
+    0
 }
 
-// The units of b, by way of a buffer of a bucket's size.
+// The window comes to show the copy of b, if b has one.
+fn lay_copy(z: Sizes, b: u16, order: &[u8], copies: &[u16], flash: &[u8], window: &mut [u8])
+    requires { ⌜ Limits z × (length (now flash) ≡ flashSize z) ⌝ }
+    requires { ⌜ (length (now copies) ≡ length (now order)) × (all (isBelow (body z)) (now order) ≡ true) ⌝ }
+    requires { ⌜ length (now window) ≤ bucketSize z ⌝ }
+    ensures { λ _. ⌜ now (window .exit) ≡ (if member b (now (copies .entry)) then part (part (now (flash .entry)) (head (beside b (now (copies .entry)) (now (order .entry))) * bucketSize z) (bucketSize z)) 0 (length (now (window .entry))) else now (window .entry)) ⌝ }
+{
+    if occurs(b, copies) {
+        let c = first_beside(b, copies, order) as usize;
+        gather::piece_range(flash, z.p * z.s, c, 0, window);
+    }
+}
+
+// Lays the logs of the bucket at a place, if it is a Write bucket of b.
+fn lay_bucket(
+    z: Sizes,
+    b: u16,
+    place: usize,
+    order: &[u8],
+    writes: &[u16],
+    flash: &[u8],
+    spare: &[u8],
+    window: &mut [u8],
+)
+    requires { ⌜ Readable z (now flash) (now spare) ⌝ }
+    requires { ⌜ (place < length (now order)) × (place < length (now writes)) × (getD (now order) place 0 < body z) ⌝ }
+    requires { ⌜ length (now window) ≤ bucketSize z ⌝ }
+    ensures { λ _. ⌜ ((base : List ℕ) → length base ≡ bucketSize z → Turns 0 base (if eqb b (getD (now (writes .entry)) place 0) then merge z (chip (now (flash .entry)) (now (spare .entry))) (getD (now (order .entry)) place 0) base else base) (now (window .entry)) (now (window .exit))) ⌝ }
+{
+    if b == writes[place] {
+        merge::merge_range(z, order[place] as usize, 0, flash, spare, window);
+    }
+}
+
+// Lays the logs of all its Write buckets, in the order.
+fn lay_logs(
+    z: Sizes,
+    b: u16,
+    order: &[u8],
+    writes: &[u16],
+    flash: &[u8],
+    spare: &[u8],
+    window: &mut [u8],
+)
+    requires { ⌜ Readable z (now flash) (now spare) ⌝ }
+    requires { ⌜ (length (now writes) ≡ length (now order)) × (all (isBelow (body z)) (now order) ≡ true) ⌝ }
+    requires { ⌜ length (now window) ≤ bucketSize z ⌝ }
+    ensures { λ _. ⌜ ((base : List ℕ) → length base ≡ bucketSize z → Turns 0 base (mergeAll z (chip (now (flash .entry)) (now (spare .entry))) (beside b (now (writes .entry)) (now (order .entry))) base) (now (window .entry)) (now (window .exit))) ⌝ }
+{
+    let mut place = 0;
+    while place < writes.len() {
+        lay_bucket(z, b, place, order, writes, flash, spare, window);
+        place += 1;
+    }
+}
+
+// The window shows the bytes of b on the disk, and then those that recovery writes there.
+fn lay_rescued(
+    z: Sizes,
+    b: u16,
+    order: &[u8],
+    writes: &[u16],
+    dropped_writes: &[u16],
+    copies: &[u16],
+    flash: &[u8],
+    spare: &[u8],
+    window: &mut [u8],
+)
+    requires { ⌜ Readable z (now flash) (now spare) ⌝ }
+    requires { ⌜ Listed z (now spare) (now order) (now writes) (now «dropped_writes») (now copies) ⌝ }
+    requires { ⌜ (b < z .b) × (isRescued z (spareOnly (now spare)) b ≡ true) ⌝ }
+    requires { ⌜ length (now window) ≤ bucketSize z ⌝ }
+    ensures { λ _. ⌜ ((disk : List ℕ) → length disk ≡ diskSize z → Turns 0 (diskBytes z (device (now (flash .entry)) (now (spare .entry)) disk) b) (rescued z (device (now (flash .entry)) (now (spare .entry)) disk) b) (now (window .entry)) (now (window .exit))) ⌝ }
+{
+    lay_copy(z, b, order, copies, flash, window);
+    if occurs(b, dropped_writes) {
+        lay_logs(z, b, order, writes, flash, spare, window);
+    }
+}
+
+// The units of b, laid in their place on the disk: as many as the allowance lets be made.
 fn rescue_one(
     meter: Meter,
     z: Sizes,
     b: usize,
-    writes: WriteClasses,
-    copies: CopyClasses,
-    bytes: &mut [u8],
-    flash: &mut [u8],
-    spare: &mut [u8],
+    order: &[u8],
+    writes: &[u16],
+    dropped_writes: &[u16],
+    copies: &[u16],
+    flash: &[u8],
+    spare: &[u8],
     disk: &mut [u8],
 ) -> Meter
     requires { ⌜ Recoverable z (now flash) (now spare) (now disk) ⌝ }
-    requires { ⌜ WriteLists z (spareOnly (now spare)) writes × CopyLists z (spareOnly (now spare)) copies ⌝ }
-    requires { ⌜ (b < z .b) × (length (now bytes) ≡ bucketSize z) ⌝ }
-    ensures { λ r. ⌜ running (now (flash .exit)) (now (spare .exit)) (now (disk .exit)) r ≡ runAll z (rescueStores z (device (now (flash .entry)) (now (spare .entry)) (now (disk .entry))) b) (running (now (flash .entry)) (now (spare .entry)) (now (disk .entry)) meter) ⌝ }
-    ensures { λ _. ⌜ Lent z (now (flash .exit)) (now (spare .exit)) (now (disk .exit)) ⌝ }
-    ensures { λ _. ⌜ length (rescued z (device (now (flash .entry)) (now (spare .entry)) (now (disk .entry))) b) ≡ bucketSize z ⌝ }
+    requires { ⌜ Listed z (now spare) (now order) (now writes) (now «dropped_writes») (now copies) ⌝ }
+    requires { ⌜ (b < z .b) × (isRescued z (spareOnly (now spare)) b ≡ true) ⌝ }
+    ensures { λ r. ⌜ running (now (flash .entry)) (now (spare .entry)) (now (disk .exit)) r ≡ runAll z (rescueStores z (device (now (flash .entry)) (now (spare .entry)) (now (disk .entry))) b) (running (now (flash .entry)) (now (spare .entry)) (now (disk .entry)) meter) ⌝ }
+    ensures { λ _. ⌜ length (now (disk .exit)) ≡ diskSize z ⌝ }
 {
-    rescued::rescued_into(z, b as u16, writes, copies, flash, spare, disk, bytes);
-    units::write_units(meter, z, b, bytes, flash, spare, disk)
+    let at = b * (z.p * z.s);
+    let end = at + units::allowed(meter, z) * z.s;
+    lay_rescued(
+        z,
+        b as u16,
+        order,
+        writes,
+        dropped_writes,
+        copies,
+        flash,
+        spare,
+        &mut disk[at..end],
+    );
+    units::spent(meter, z)
 }
 
-// Those of every rescued back-end bucket: from each to the next one.
+// The back-end bucket of a dropped copy, if the copy is Dirty.
+fn unsaved_back(z: Sizes, c: usize, back: u16, spare: &[u8]) -> u16
+    requires { ⌜ Chip z (now spare) ⌝ }
+    requires { ⌜ c < z .c ⌝ }
+    ensures { λ r. ⌜ r ≡ (if isDirty z (spareOnly (now (spare .entry))) c then back else nowhere) ⌝ }
+{
+    if image::is_dirty(z, c, spare) {
+        back
+    } else {
+        classes::NOWHERE
+    }
+}
+
+// The column of the unsaved copies.
+fn unsaved_backs(z: Sizes, order: &[u8], dropped_copies: &[u16], spare: &[u8]) -> [u16; 256]
+    requires { ⌜ Chip z (now spare) ⌝ }
+    requires { ⌜ now order ≡ inOrder z (spareOnly (now spare)) ⌝ }
+    requires { ⌜ now «dropped_copies» ≡ column z (spareOnly (now spare)) (isDroppedCopy z (spareOnly (now spare))) ⌝ }
+    ensures { λ r. ⌜ take (length (now (order .entry))) r ≡ column z (spareOnly (now (spare .entry))) (isUnsaved z (spareOnly (now (spare .entry)))) ⌝ }
+{
+    let mut unsaved = [0u16; 256];
+    let mut i = 0;
+    while i < order.len() {
+        unsaved[i] = unsaved_back(z, order[i] as usize, dropped_copies[i], spare);
+        i += 1;
+    }
+    unsaved
+}
+
+// The next back-end bucket that is flushed or unsaved, from one on; or `end`.
+fn next_rescued(dropped_writes: &[u16], unsaved: &[u16], from: usize, end: usize) -> usize
+    requires { ⌜ (from ≤ 65535) × (end ≤ 65535) ⌝ }
+    ensures { λ r. ⌜ r ≡ nextOf from end (now («dropped_writes» .entry) ++ now (unsaved .entry)) ⌝ }
+{
+    let first = order::next_of(dropped_writes, from, end);
+    order::next_of(unsaved, from, first)
+}
+
+// The units of every rescued back-end bucket: from each to the next one.
 fn rescue_each(
     meter: Meter,
     z: Sizes,
-    writes: WriteClasses,
-    copies: CopyClasses,
-    bytes: &mut [u8],
-    flash: &mut [u8],
-    spare: &mut [u8],
+    order: &[u8],
+    writes: &[u16],
+    dropped_writes: &[u16],
+    copies: &[u16],
+    unsaved: &[u16],
+    flash: &[u8],
+    spare: &[u8],
     disk: &mut [u8],
 ) -> Meter
     requires { ⌜ Recoverable z (now flash) (now spare) (now disk) ⌝ }
-    requires { ⌜ WriteLists z (spareOnly (now spare)) writes × CopyLists z (spareOnly (now spare)) copies ⌝ }
-    requires { ⌜ length (now bytes) ≡ bucketSize z ⌝ }
-    ensures { λ r. ⌜ running (now (flash .exit)) (now (spare .exit)) (now (disk .exit)) r ≡ runAll z (recover z (device (now (flash .entry)) (now (spare .entry)) (now (disk .entry))) .stores) (running (now (flash .entry)) (now (spare .entry)) (now (disk .entry)) meter) ⌝ }
-    ensures { λ _. ⌜ Lent z (now (flash .exit)) (now (spare .exit)) (now (disk .exit)) ⌝ }
+    requires { ⌜ Listed z (now spare) (now order) (now writes) (now «dropped_writes») (now copies) ⌝ }
+    requires { ⌜ now unsaved ≡ column z (spareOnly (now spare)) (isUnsaved z (spareOnly (now spare))) ⌝ }
+    ensures { λ r. ⌜ running (now (flash .entry)) (now (spare .entry)) (now (disk .exit)) r ≡ runAll z (recover z (device (now (flash .entry)) (now (spare .entry)) (now (disk .entry))) .stores) (running (now (flash .entry)) (now (spare .entry)) (now (disk .entry)) meter) ⌝ }
+    ensures { λ _. ⌜ length (now (disk .exit)) ≡ diskSize z ⌝ }
 {
-    let flushed = backs(z, writes.dropped, spare);
-    let unsaved = backs(z, copies.unsaved, spare);
     let end = z.b;
     let mut run = meter;
-    let mut b = next(flushed, unsaved, 0, end);
+    let mut b = next_rescued(dropped_writes, unsaved, 0, end);
     while b < end {
-        run = rescue_one(run, z, b, writes, copies, bytes, flash, spare, disk);
-        b = next(flushed, unsaved, b + 1, end);
+        run = rescue_one(
+            run,
+            z,
+            b,
+            order,
+            writes,
+            dropped_writes,
+            copies,
+            flash,
+            spare,
+            disk,
+        );
+        b = next_rescued(dropped_writes, unsaved, b + 1, end);
     }
     run
 }
 
-// With a buffer for small buckets.
-fn rescue_small(
-    meter: Meter,
-    z: Sizes,
-    writes: WriteClasses,
-    copies: CopyClasses,
-    flash: &mut [u8],
-    spare: &mut [u8],
-    disk: &mut [u8],
-) -> Meter
-    requires { ⌜ Recoverable z (now flash) (now spare) (now disk) ⌝ }
-    requires { ⌜ WriteLists z (spareOnly (now spare)) writes × CopyLists z (spareOnly (now spare)) copies ⌝ }
-    requires { ⌜ bucketSize z ≤ 2048 ⌝ }
-    ensures { λ r. ⌜ running (now (flash .exit)) (now (spare .exit)) (now (disk .exit)) r ≡ runAll z (recover z (device (now (flash .entry)) (now (spare .entry)) (now (disk .entry))) .stores) (running (now (flash .entry)) (now (spare .entry)) (now (disk .entry)) meter) ⌝ }
-    ensures { λ _. ⌜ Lent z (now (flash .exit)) (now (spare .exit)) (now (disk .exit)) ⌝ }
-{
-    let mut area = [0u8; 2048];
-    let size = z.p * z.s;
-    rescue_each(
-        meter,
-        z,
-        writes,
-        copies,
-        &mut area[..size],
-        flash,
-        spare,
-        disk,
-    )
-}
-
-// With a buffer for the largest.
-fn rescue_large(
-    meter: Meter,
-    z: Sizes,
-    writes: WriteClasses,
-    copies: CopyClasses,
-    flash: &mut [u8],
-    spare: &mut [u8],
-    disk: &mut [u8],
-) -> Meter
-    requires { ⌜ Recoverable z (now flash) (now spare) (now disk) ⌝ }
-    requires { ⌜ WriteLists z (spareOnly (now spare)) writes × CopyLists z (spareOnly (now spare)) copies ⌝ }
-    ensures { λ r. ⌜ running (now (flash .exit)) (now (spare .exit)) (now (disk .exit)) r ≡ runAll z (recover z (device (now (flash .entry)) (now (spare .entry)) (now (disk .entry))) .stores) (running (now (flash .entry)) (now (spare .entry)) (now (disk .entry)) meter) ⌝ }
-    ensures { λ _. ⌜ Lent z (now (flash .exit)) (now (spare .exit)) (now (disk .exit)) ⌝ }
-{
-    let mut area = [0u8; 65536];
-    let size = z.p * z.s;
-    rescue_each(
-        meter,
-        z,
-        writes,
-        copies,
-        &mut area[..size],
-        flash,
-        spare,
-        disk,
-    )
-}
-
+// The stores of a recovery, with the unsaved copies in a column of their own.
 pub fn rescue(
     meter: Meter,
     z: Sizes,
-    writes: WriteClasses,
-    copies: CopyClasses,
+    order: &[u8],
+    writes: &[u16],
+    dropped_writes: &[u16],
+    copies: &[u16],
+    dropped_copies: &[u16],
     flash: &mut [u8],
     spare: &mut [u8],
     disk: &mut [u8],
 ) -> Meter
     requires { ⌜ Recoverable z (now flash) (now spare) (now disk) ⌝ }
-    requires { ⌜ WriteLists z (spareOnly (now spare)) writes × CopyLists z (spareOnly (now spare)) copies ⌝ }
+    requires { ⌜ Columns z (spareOnly (now spare)) (now order) (now writes) (now «dropped_writes») (now copies) (now «dropped_copies») ⌝ }
     ensures { λ r. ⌜ running (now (flash .exit)) (now (spare .exit)) (now (disk .exit)) r ≡ runAll z (recover z (device (now (flash .entry)) (now (spare .entry)) (now (disk .entry))) .stores) (running (now (flash .entry)) (now (spare .entry)) (now (disk .entry)) meter) ⌝ }
     ensures { λ _. ⌜ Lent z (now (flash .exit)) (now (spare .exit)) (now (disk .exit)) ⌝ }
 {
-    if z.p * z.s <= 2048 {
-        rescue_small(meter, z, writes, copies, flash, spare, disk)
-    } else {
-        rescue_large(meter, z, writes, copies, flash, spare, disk)
-    }
+    let unsaved = unsaved_backs(z, order, dropped_copies, spare);
+    let n = order.len();
+    rescue_each(
+        meter,
+        z,
+        order,
+        writes,
+        dropped_writes,
+        copies,
+        &unsaved[..n],
+        flash,
+        spare,
+        disk,
+    )
 }

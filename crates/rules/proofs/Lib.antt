@@ -1,3 +1,4 @@
+pub mod Buckets
 pub mod Page
 pub mod SameSpare
-pub mod Tail
+pub mod Slots

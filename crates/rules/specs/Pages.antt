@@ -1,30 +1,54 @@
--- The pages of a bucket as the test goes through them.
-use Prim.Native.Nat.{ℕ, _+_, _-_, _*_, _≤_, _<_}
+-- The pages of a bucket, and the buckets of a chip, as the test goes through them.
+use Prim.Native.Nat.{ℕ, zero, suc, _+_, _≤_, _<_}
 use mathlib.Core.Path.{_≡_}
-use mathlib.Core.Bool.{Bool, true, false}
-use mathlib.Core.List.{List}
-use lib.Dec.{eqb}
-use Rattle.lists.specs.Lists.{part}
+use mathlib.Core.Bool.{Bool, true, false, _&&_}
+use mathlib.Core.List.{List, [], _∷_}
+use lib.ListN.{getD}
+use lib.Dec.{ltb, eqb}
+use Rattle.lists.specs.Lists.{every, allBelow, part, same}
 use Rattle.model.specs.declared.Sizes.{Sizes}
-use Rattle.model.specs.Sizes.{Device}
+use Rattle.model.specs.Sizes.{Device, body}
+use Rattle.model.specs.Spare.{kind, ordinal, pages}
 use Rattle.model.specs.Stores.{tagOf}
-use Rattle.model.specs.Image.{pageFits, pageBlank}
-use Rattle.spare.specs.declared.Seen.{Seen}
-use Rattle.spare.specs.Fields.{seen}
+use Rattle.model.specs.Image.{follows, fieldsFit, bucketFits, headTag}
 
--- what was seen of the page before page k, which fits
-abbrev pub Behind : Sizes → Device → (c k : ℕ) → Seen → Type 0
-Behind z d c k before = 1 ≤ k → (before ≡ seen (tagOf z d c (k - 1))) × (pageFits z d c (k - 1) ≡ true)
+-- a page has the bytes of the page before it but for the ordinal, which is one higher and below the page count
+unfoldable pub goesOn : List ℕ → List ℕ → Bool
+goesOn before tag = every
+    (same (part before 8 8) (part tag 8 8)
+    ∷ same (part before 4 4) (part tag 4 4)
+    ∷ eqb (ordinal tag) (ordinal before + 1)
+    ∷ eqb (pages tag) (pages before)
+    ∷ ltb (ordinal tag) (pages tag)
+    ∷ eqb (kind tag) (kind before)
+    ∷ eqb (getD tag 3 0) (getD before 3 0) ∷ [])
 
--- the first n pages are programmed; page n, if there is one, is blank
-pub record Used (z : Sizes) (d : Device) (c n : ℕ) : Type 0 where
-  pub within : n ≤ z .p
-  pub before : (k : ℕ) → k < n → pageBlank z d c k ≡ false
-  pub behind : n < z .p → pageBlank z d c n ≡ true
+module _ (z : Sizes) (d : Device) where
+  -- page k of the bucket c is programmed and fits
+  unfoldable pub fitsAt : ℕ → ℕ → Bool
+  fitsAt c zero = fieldsFit z (tagOf z d c zero) && eqb (ordinal (tagOf z d c zero)) 0
+  fitsAt c (suc k) = fieldsFit z (tagOf z d c (suc k)) && follows (tagOf z d c k) (tagOf z d c (suc k))
 
-abbrev pub isErased : ℕ → Bool
-isErased x = eqb x 255
+  -- so do the first n pages
+  abbrev pub Fitting : ℕ → ℕ → Type 0
+  Fitting c n = (n ≤ z .p) × (allBelow n (fitsAt c) ≡ true)
 
--- the spare bytes of the bucket's pages from k on
-abbrev pub spareFrom : Sizes → List ℕ → (c k : ℕ) → List ℕ
-spareFrom z spare c k = part spare ((c * z .p + k) * 16) ((z .p - k) * 16)
+  -- and page n, if there is one, does not
+  abbrev pub Stops : ℕ → ℕ → Type 0
+  Stops c n = Fitting c n × (n < z .p → fitsAt c n ≡ false)
+
+  -- bucket j of those from c on fits
+  unfoldable pub fitsFrom : ℕ → ℕ → Bool
+  fitsFrom c j = bucketFits z d (c + j)
+
+  -- the first pages of the buckets c to e - 1 have no kind
+  pub record NoKinds (c e : ℕ) : Type 0 where
+    pub start : c ≤ e
+    pub within : e ≤ body z
+    pub erased : (j : ℕ) → c ≤ j → j < e → kind (headTag z d j) ≡ 255
+
+  -- c alone, or several buckets whose first pages have no kind
+  pub record Span (c e : ℕ) : Type 0 where
+    pub some : c < e
+    pub within : e ≤ body z
+    pub erased : (e ≡ c + 1 → ⊥) → (j : ℕ) → c ≤ j → j < e → kind (headTag z d j) ≡ 255

@@ -2,21 +2,22 @@
 // A rule for a page is tested on its fields: its contract holds of all spare bytes that say these fields.
 use model::Sizes;
 use spare::Fields;
-use spare::Seen;
 ghost use mathlib.Core.Path.{_≡_};
 ghost use mathlib.Core.Bool.{true, false, _&&_};
 ghost use mathlib.Core.List.{List, map};
-ghost use Prim.Native.Nat.{ℕ, _≤_, _<_};
-ghost use Rattle.lists.specs.Lists.{all, allBelow, member, distinct, keep, below};
+ghost use Prim.Native.Nat.{ℕ, _+_, _-_, _%_, _≤_, _<_};
+ghost use lib.ListN.{length};
+ghost use lib.Dec.{eqb};
+ghost use Rattle.lists.specs.Lists.{allBelow, times, distinct, keep, below};
 ghost use Rattle.model.specs.Sizes.{body};
 ghost use Rattle.model.specs.Spare.{blank, zeros};
 ghost use Rattle.model.specs.Stores.{tagOf};
-ghost use Rattle.model.specs.Image.{continues, follows, fieldsFit, pageFits, bucketFits, used, epochOf, wellFormed};
+ghost use Rattle.model.specs.Image.{continues, follows, fieldsFit, bucketFits, used, epochOf, wellFormed};
 ghost use Rattle.model.proofs.Limits.{Limits};
-ghost use Rattle.spare.specs.Fields.{fields, seen};
-ghost use Rattle.spare.specs.declared.Seen.the-variants.{Programmed};
+ghost use Rattle.spare.specs.Fields.{fields};
 ghost use Rattle.image.specs.Chip.{Chip, spareOnly};
-ghost use Rattle.rules.specs.Pages.{Behind, Used, isErased, spareFrom};
+ghost use Rattle.rules.specs.Pages.{fitsAt, Fitting, Stops, goesOn, fitsFrom, NoKinds, Span};
+ghost use Rattle.rules.specs.Slots.{Tells};
 
 // The rules for one programmed page.
 fn fields_fit(z: Sizes, f: Fields, zeroed: bool) -> bool
@@ -34,11 +35,17 @@ fn fields_fit(z: Sizes, f: Fields, zeroed: bool) -> bool
     kind & place & zeroed & log & ((f.kind == 2) | spans)
 }
 
+fn is_next(before: u8, ordinal: u8) -> bool
+    ensures { λ r. ⌜ r ≡ eqb ordinal (before + 1) ⌝ }
+{
+    ordinal as usize == before as usize + 1
+}
+
 // Whether a page continues the log of the page before it.
 fn continues(before: Fields, f: Fields) -> bool
     ensures { λ r. ⌜ ((b tag : List ℕ) → fields b ≡ before → fields tag ≡ f → r ≡ continues b tag) ⌝ }
 {
-    let next = f.ordinal as usize == before.ordinal as usize + 1;
+    let next = is_next(before.ordinal, f.ordinal);
     let log = (f.pages == before.pages) & (f.offset == before.offset);
     next & log & (f.last == before.last)
 }
@@ -66,111 +73,146 @@ fn later_fits(z: Sizes, before: Fields, f: Fields, zeroed: bool) -> bool
     zeroed & (f.ordinal < f.pages) & follow
 }
 
-// The rules for a programmed page where it stands, behind one that fits.
-fn programmed_fits(z: Sizes, c: usize, k: usize, f: Fields, before: Seen, spare: &[u8]) -> bool
+// The rules for a page with a kind, behind pages that fit.
+fn programmed_fits(z: Sizes, c: usize, k: usize, spare: &[u8]) -> bool
     requires { ⌜ Chip z (now spare) ⌝ }
     requires { ⌜ c < z .c ⌝ }
     requires { ⌜ k < z .p ⌝ }
-    requires { ⌜ seen (tagOf z (spareOnly (now spare)) c k) ≡ Programmed f ⌝ }
-    requires { ⌜ Behind z (spareOnly (now spare)) c k before ⌝ }
-    ensures { λ r. ⌜ r ≡ pageFits z (spareOnly (now (spare .entry))) c k ⌝ }
+    requires { ⌜ Fitting z (spareOnly (now spare)) c k ⌝ }
+    ensures { λ r. ⌜ r ≡ fitsAt z (spareOnly (now (spare .entry))) c k ⌝ }
 {
-    let zeroed = spare::zeroed(spare, c * z.p + k);
+    let page = c * z.p + k;
+    let f = spare::fields_at(spare, page);
+    let zeroed = spare::zeroed(spare, page);
     if k == 0 {
         return fields_fit(z, f, zeroed) & (f.ordinal == 0);
     }
-    match before {
-        Seen::Blank => false,
-        Seen::Programmed(b) => later_fits(z, b, f, zeroed),
-    }
+    let before = spare::fields_at(spare, page - 1);
+    later_fits(z, before, f, zeroed)
 }
 
-fn page_fits(z: Sizes, c: usize, k: usize, page: Seen, before: Seen, spare: &[u8]) -> bool
+// Whether page k is programmed and fits, behind pages that do. An erased page has no kind, and needs no rule.
+fn page_fits(z: Sizes, c: usize, k: usize, spare: &[u8]) -> bool
     requires { ⌜ Chip z (now spare) ⌝ }
     requires { ⌜ c < z .c ⌝ }
     requires { ⌜ k < z .p ⌝ }
-    requires { ⌜ page ≡ seen (tagOf z (spareOnly (now spare)) c k) ⌝ }
-    requires { ⌜ Behind z (spareOnly (now spare)) c k before ⌝ }
-    ensures { λ r. ⌜ r ≡ pageFits z (spareOnly (now (spare .entry))) c k ⌝ }
+    requires { ⌜ Fitting z (spareOnly (now spare)) c k ⌝ }
+    ensures { λ r. ⌜ r ≡ fitsAt z (spareOnly (now (spare .entry))) c k ⌝ }
 {
-    match page {
-        Seen::Blank => true,
-        Seen::Programmed(f) => programmed_fits(z, c, k, f, before, spare),
+    if spare::kind_at(spare, c * z.p + k) == 255 {
+        return false;
     }
+    programmed_fits(z, c, k, spare)
 }
 
-// The first n pages; each is looked at once.
-fn pages_fit(z: Sizes, c: usize, n: usize, spare: &[u8]) -> bool
+// Whether a page has the bytes of the page before it but for the ordinal, which is one higher and below the page count.
+fn goes_on(before: &[u8], page: &[u8]) -> bool
+    requires { ⌜ length (now before) ≡ 16 ⌝ }
+    requires { ⌜ length (now page) ≡ 16 ⌝ }
+    ensures { λ r. ⌜ r ≡ goesOn (now (before .entry)) (now (page .entry)) ⌝ }
+{
+    if !spare::equal(&before[8..16], &page[8..16]) {
+        return false;
+    }
+    let epoch = spare::equal(&before[4..8], &page[4..8]);
+    let next = is_next(before[1], page[1]);
+    let log = (page[2] == before[2]) & (page[1] < page[2]);
+    epoch & next & log & (page[0] == before[0]) & (page[3] == before[3])
+}
+
+fn goes_on_at(z: Sizes, c: usize, k: usize, spare: &[u8]) -> bool
     requires { ⌜ Chip z (now spare) ⌝ }
     requires { ⌜ c < z .c ⌝ }
-    requires { ⌜ n ≤ z .p ⌝ }
-    ensures { λ r. ⌜ r ≡ allBelow n (pageFits z (spareOnly (now (spare .entry))) c) ⌝ }
+    requires { ⌜ (1 ≤ k) × (k < z .p) ⌝ }
+    ensures { λ r. ⌜ r ≡ goesOn (tagOf z (spareOnly (now (spare .entry))) c (k - 1)) (tagOf z (spareOnly (now (spare .entry))) c k) ⌝ }
 {
-    let mut before = Seen::Blank;
-    let mut k = 0;
-    while k < n {
-        let page = image::look(z, c, k, spare);
-        if !page_fits(z, c, k, page, before, spare) {
-            return false;
+    let start = (c * z.p + k) * 16;
+    let before = start - 16;
+    let end = start + 16;
+    goes_on(&spare[before..start], &spare[start..end])
+}
+
+// The first page from k on that does not go on like the page before it: those up to it fit, and no rule is tested on them.
+fn run_end(z: Sizes, c: usize, k: usize, spare: &[u8]) -> usize
+    requires { ⌜ Chip z (now spare) ⌝ }
+    requires { ⌜ c < z .c ⌝ }
+    requires { ⌜ 1 ≤ k ⌝ }
+    requires { ⌜ Fitting z (spareOnly (now spare)) c k ⌝ }
+    ensures { λ r. ⌜ (k ≤ r) × Fitting z (spareOnly (now (spare .entry))) c r ⌝ }
+{
+    let mut e = k;
+    while e < z.p {
+        if !goes_on_at(z, c, e, spare) {
+            return e;
         }
-        before = page;
-        k += 1;
+        e += 1;
     }
-    true
+    e
 }
 
-// How many pages stand before the first blank one.
-fn used_pages(z: Sizes, c: usize, spare: &[u8]) -> usize
+// How many pages from the first on are programmed and fit.
+fn fitting(z: Sizes, c: usize, spare: &[u8]) -> usize
     requires { ⌜ Chip z (now spare) ⌝ }
     requires { ⌜ c < z .c ⌝ }
-    ensures { λ r. ⌜ Used z (spareOnly (now (spare .entry))) c r ⌝ }
+    ensures { λ r. ⌜ Stops z (spareOnly (now (spare .entry))) c r ⌝ }
 {
     let mut k = 0;
     while k < z.p {
-        if image::page_blank(z, c, k, spare) {
+        if !page_fits(z, c, k, spare) {
             return k;
         }
-        k += 1;
+        k = run_end(z, c, k + 1, spare);
     }
     k
 }
 
-// Whether all bytes are FF. With no way out at the first that is not, the loop takes many bytes at a time.
-fn erased(bytes: &[u8]) -> bool
-    ensures { λ r. ⌜ r ≡ all isErased (now (bytes .entry)) ⌝ }
-{
-    let mut erased = true;
-    let mut i = 0;
-    while i < bytes.len() {
-        erased = erased & (bytes[i] == 255);
-        i += 1;
-    }
-    erased
-}
-
-// Whether the spare bytes of the bucket's pages from k on are all FF.
-fn erased_from(z: Sizes, c: usize, k: usize, spare: &[u8]) -> bool
-    requires { ⌜ Chip z (now spare) ⌝ }
-    requires { ⌜ c < z .c ⌝ }
-    requires { ⌜ k ≤ z .p ⌝ }
-    ensures { λ r. ⌜ r ≡ all isErased (spareFrom z (now (spare .entry)) c k) ⌝ }
-{
-    let start = (c * z.p + k) * 16;
-    let end = (c * z.p + z.p) * 16;
-    erased(&spare[start..end])
-}
-
-// Blank pages come only at the end: behind the first of them all bytes are FF.
+// Blank pages come only at the end.
 fn bucket_fits(z: Sizes, c: usize, spare: &[u8]) -> bool
     requires { ⌜ Chip z (now spare) ⌝ }
     requires { ⌜ c < z .c ⌝ }
     ensures { λ r. ⌜ r ≡ bucketFits z (spareOnly (now (spare .entry))) c ⌝ }
 {
-    let used = used_pages(z, c, spare);
-    if !erased_from(z, c, used, spare) {
-        return false;
+    let n = fitting(z, c, spare);
+    spare::are_blank(spare, c * z.p + n, z.p - n)
+}
+
+// The first bucket from c on whose first page has a kind.
+fn next_kind(z: Sizes, c: usize, spare: &[u8]) -> usize
+    requires { ⌜ Chip z (now spare) ⌝ }
+    requires { ⌜ c < body z ⌝ }
+    ensures { λ r. ⌜ NoKinds z (spareOnly (now (spare .entry))) c r ⌝ }
+{
+    let end = geometry::body(z);
+    let mut e = c;
+    while e < end {
+        if spare::kind_at(spare, e * z.p) != 255 {
+            return e;
+        }
+        e += 1;
     }
-    pages_fit(z, c, used, spare)
+    e
+}
+
+// Where the span of buckets that starts with c ends: c alone if it has a kind, else those up to the next that has one.
+fn span_end(z: Sizes, c: usize, spare: &[u8]) -> usize
+    requires { ⌜ Chip z (now spare) ⌝ }
+    requires { ⌜ c < body z ⌝ }
+    ensures { λ r. ⌜ Span z (spareOnly (now (spare .entry))) c r ⌝ }
+{
+    let e = next_kind(z, c, spare);
+    if e == c { c + 1 } else { e }
+}
+
+// Several buckets with no kind are tested at once: all their pages must be blank.
+fn span_fits(z: Sizes, c: usize, e: usize, spare: &[u8]) -> bool
+    requires { ⌜ Chip z (now spare) ⌝ }
+    requires { ⌜ Span z (spareOnly (now spare)) c e ⌝ }
+    ensures { λ r. ⌜ r ≡ allBelow (e - c) (fitsFrom z (spareOnly (now (spare .entry))) c) ⌝ }
+{
+    if e == c + 1 {
+        return bucket_fits(z, c, spare);
+    }
+    spare::are_blank(spare, c * z.p, (e - c) * z.p)
 }
 
 fn buckets_fit(z: Sizes, spare: &[u8]) -> bool
@@ -178,38 +220,78 @@ fn buckets_fit(z: Sizes, spare: &[u8]) -> bool
     ensures { λ r. ⌜ r ≡ allBelow (body z) (bucketFits z (spareOnly (now (spare .entry)))) ⌝ }
 {
     let end = geometry::body(z);
-    let mut fit = true;
     let mut bucket = 0;
     while bucket < end {
-        fit = fit & bucket_fits(z, bucket, spare);
-        bucket += 1;
+        let e = span_end(z, bucket, spare);
+        if !span_fits(z, bucket, e, spare) {
+            return false;
+        }
+        bucket = e;
     }
-    fit
+    true
 }
 
-// All are compared, with no way out at the first: such a loop becomes few instructions.
-fn occurs(x: u32, items: &[u32]) -> bool
-    ensures { λ r. ⌜ r ≡ member x (now (items .entry)) ⌝ }
+// How often x stands there. All are compared, with no way out: such a loop takes several at a time.
+fn count_of(x: u32, items: &[u32]) -> u32
+    requires { ⌜ length (now items) ≤ 256 ⌝ }
+    ensures { λ r. ⌜ r ≡ times x (now (items .entry)) ⌝ }
 {
-    let mut found = false;
+    let mut n = 0u32;
     let mut i = 0;
     while i < items.len() {
-        found = found | (x == items[i]);
+        let y = items[i];
+        i += 1;
+        if x == y {
+            n += 1;
+        }
+    }
+    n
+}
+
+fn slot_of(x: u32) -> usize
+    ensures { λ r. ⌜ r ≡ x % 1024 ⌝ }
+{
+    x as usize % 1024
+}
+
+// The slot of each number comes to name its place, or that of a later number with the same slot.
+fn fill_slots(items: &[u32], slots: &mut [u8; 1024])
+    requires { ⌜ length (now items) ≤ 256 ⌝ }
+{
+    let mut i = 0;
+    while i < items.len() {
+        let slot = slot_of(items[i]);
+        slots[slot] = i as u8;
         i += 1;
     }
-    found
+}
+
+// Numbers that their slots name differ from each other, whatever the slots hold; any other is compared with all.
+fn stands_alone(items: &[u32], i: usize, slots: &[u8; 1024]) -> bool
+    requires { ⌜ length (now items) ≤ 256 ⌝ }
+    requires { ⌜ i < length (now items) ⌝ }
+    ensures { λ r. ⌜ Tells (now (items .entry)) (now (slots .entry)) i r ⌝ }
+{
+    let x = items[i];
+    let slot = slot_of(x);
+    if slots[slot] == i as u8 {
+        return true;
+    }
+    count_of(x, items) == 1
 }
 
 fn all_differ(items: &[u32]) -> bool
+    requires { ⌜ length (now items) ≤ 256 ⌝ }
     ensures { λ r. ⌜ r ≡ distinct (now (items .entry)) ⌝ }
 {
+    let mut slots = [0u8; 1024];
+    fill_slots(items, &mut slots);
     let mut i = 0;
     while i < items.len() {
-        let x = items[i];
-        i += 1;
-        if occurs(x, &items[i..]) {
+        if !stands_alone(items, i, &slots) {
             return false;
         }
+        i += 1;
     }
     true
 }
@@ -217,6 +299,7 @@ fn all_differ(items: &[u32]) -> bool
 // No two buckets share an epoch: those of the used buckets are gathered, and compared.
 fn epochs_differ(z: Sizes, spare: &[u8]) -> bool
     requires { ⌜ Chip z (now spare) ⌝ }
+    requires { ⌜ allBelow (body z) (bucketFits z (spareOnly (now spare))) ≡ true ⌝ }
     ensures { λ r. ⌜ r ≡ distinct (map (epochOf z (spareOnly (now (spare .entry)))) (keep (used z (spareOnly (now (spare .entry)))) (below (body z)))) ⌝ }
 {
     let end = geometry::body(z);
@@ -225,7 +308,7 @@ fn epochs_differ(z: Sizes, spare: &[u8]) -> bool
     let mut c = 0;
     while c < end {
         if image::used(z, c, spare) {
-            epochs[n] = image::epoch_of(z, c, spare);
+            epochs[n] = image::used_epoch(z, c, spare);
             n += 1;
         }
         c += 1;
@@ -237,7 +320,8 @@ pub fn well_formed(z: Sizes, spare: &[u8]) -> bool
     requires { ⌜ Chip z (now spare) ⌝ }
     ensures { λ r. ⌜ r ≡ wellFormed z (spareOnly (now (spare .entry))) ⌝ }
 {
-    let fit = buckets_fit(z, spare);
-    let differ = epochs_differ(z, spare);
-    fit & differ
+    if !buckets_fit(z, spare) {
+        return false;
+    }
+    epochs_differ(z, spare)
 }

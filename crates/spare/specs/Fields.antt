@@ -1,7 +1,8 @@
 -- The code's fields and the book's spare bytes.
-use Prim.Native.Nat.{ℕ, _+_}
+use Prim.Native.Nat.{ℕ, _+_, _*_}
+use mathlib.Core.Bool.{Bool}
 use mathlib.Core.List.{List}
-use Rattle.lists.specs.Lists.{if_then_else_}
+use Rattle.lists.specs.Lists.{if_then_else_, part}
 use Rattle.model.specs.Spare.{two, blank, kind, ordinal, pages, epoch, back, offset, tagBytes}
 use Rattle.spare.specs.declared.Fields.{Fields}
 use Rattle.spare.specs.declared.Seen.{Seen}
@@ -26,3 +27,7 @@ fields tag = record {
 -- what a look at spare bytes finds
 unfoldable pub seen : List ℕ → Seen
 seen tag = if blank tag then Blank else Programmed (fields tag)
+
+-- page j of those from the first on is blank
+unfoldable pub blankFrom : List ℕ → (first j : ℕ) → Bool
+blankFrom spare first j = blank (part spare ((first + j) * 16) 16)

@@ -2,9 +2,9 @@
 ghost use mathlib.Core.Path.{_≡_};
 ghost use Prim.Native.Nat.{_+_, _*_, _≤_};
 ghost use lib.ListN.{length};
-ghost use Rattle.lists.specs.Lists.{same, part};
+ghost use Rattle.lists.specs.Lists.{allBelow, same, part, ff};
 ghost use Rattle.model.specs.Spare.{two, four, blank, kind, epoch, back, zeros};
-ghost use Rattle.spare.specs.Fields.{tag, fields, seen};
+ghost use Rattle.spare.specs.Fields.{tag, fields, seen, blankFrom};
 
 // What the spare bytes of a programmed page say. `last` is the log's length less one.
 pub struct Fields {
@@ -96,21 +96,20 @@ fn decode(bytes: &[u8]) -> Fields
     }
 }
 
-// Whether two areas hold the same bytes.
-fn equal(a: &[u8], b: &[u8]) -> bool
+// Whether two areas hold the same bytes. With no way out at the first that differs, the loop takes many at a time.
+pub fn equal(a: &[u8], b: &[u8]) -> bool
     ensures { λ r. ⌜ r ≡ same (now (a .entry)) (now (b .entry)) ⌝ }
 {
     if a.len() != b.len() {
         return false;
     }
+    let mut alike = true;
     let mut i = 0;
     while i < a.len() {
-        if a[i] != b[i] {
-            return false;
-        }
+        alike = alike & (a[i] == b[i]);
         i += 1;
     }
-    true
+    alike
 }
 
 // Whether these are the spare bytes of an erased page.
@@ -123,6 +122,31 @@ pub fn is_blank(bytes: &[u8]) -> bool
     )
 }
 
+// Whether the spare bytes of a run of pages are erased: those of the first are, and each other page has the bytes of the one before it.
+fn run_blank(bytes: &[u8]) -> bool
+    requires { ⌜ 16 ≤ length (now bytes) ⌝ }
+    ensures { λ r. ⌜ r ≡ same (now (bytes .entry)) (ff (length (now (bytes .entry)))) ⌝ }
+{
+    if !is_blank(&bytes[..16]) {
+        return false;
+    }
+    let rest = bytes.len() - 16;
+    equal(&bytes[16..], &bytes[..rest])
+}
+
+// Whether n pages of the spare area are all blank, from this page on.
+pub fn are_blank(spare: &[u8], page: usize, n: usize) -> bool
+    requires { ⌜ (page + n) * 16 ≤ length (now spare) ⌝ }
+    ensures { λ r. ⌜ r ≡ allBelow n (blankFrom (now (spare .entry)) page) ⌝ }
+{
+    if n == 0 {
+        return true;
+    }
+    let start = page * 16;
+    let end = (page + n) * 16;
+    run_blank(&spare[start..end])
+}
+
 // What sixteen spare bytes are: those of an erased page, or fields.
 fn look(bytes: &[u8]) -> Seen
     requires { ⌜ length (now bytes) ≡ 16 ⌝ }
@@ -133,6 +157,16 @@ fn look(bytes: &[u8]) -> Seen
     }
     let found = decode(bytes);
     Seen::Programmed(found)
+}
+
+// The fields that a page's bytes say, erased or not.
+pub fn fields_at(spare: &[u8], page: usize) -> Fields
+    requires { ⌜ page * 16 + 16 ≤ length (now spare) ⌝ }
+    ensures { λ r. ⌜ r ≡ fields (part (now (spare .entry)) (page * 16) 16) ⌝ }
+{
+    let start = page * 16;
+    let end = start + 16;
+    decode(&spare[start..end])
 }
 
 // A look at a page of the spare area, counted over the whole chip.

@@ -158,21 +158,22 @@ impl State {
 fn with_cache(gc: Fifo, queue: Queue, b: u16) -> Fifo
     ensures { λ r. ⌜ listOf r ≡ joined 256 (listOf gc) (cachesOf b (entriesOf queue)) ⌝ }
 {
-    if !queue.holds(b) {
+    let found = queue.find(b);
+    if !found.held {
         return gc;
     }
-    let c = queue.cache_of(b);
-    gc.push(c)
+    gc.push(found.cache)
 }
 
 // The queue with b's entry, if there is one, moved to the back.
 fn most_recent(queue: Queue, b: u16) -> Queue
     ensures { λ r. ⌜ entriesOf r ≡ without b (entriesOf queue) ++ map (λ c. entry b c 0) (cachesOf b (entriesOf queue)) ⌝ }
 {
-    if !queue.holds(b) {
+    let found = queue.find(b);
+    if !found.held {
         return queue;
     }
-    let copy = queue::entry(b, queue.cache_of(b), 0);
+    let copy = queue::entry(b, found.cache, 0);
     let others = queue.without(b);
     others.push(copy)
 }

@@ -1,3 +1,4 @@
 pub mod Members
 pub mod Selected
+pub mod Differ
 pub mod Leaves

@@ -1,4 +1,5 @@
 // The units of a back-end bucket, written to the disk in rising order.
+// Code that writes them itself, at one go, asks how many the allowance lets be made: the law of `proofs/Spliced`.
 use device::Store;
 use meter::Meter;
 use model::Sizes;
@@ -10,6 +11,7 @@ ghost use Rattle.model.specs.Stores.{unitStore, unitStores};
 ghost use Rattle.model.proofs.Limits.{Limits};
 ghost use Rattle.geometry.specs.Geometry.{Lent};
 ghost use Rattle.meter.specs.Run.{running, step, runAll};
+ghost use Rattle.units.specs.Spent.{allowed, spent};
 
 // Unit u of the back-end bucket b, of all the bucket's bytes.
 fn write_unit(
@@ -66,4 +68,24 @@ pub fn write_units(
         u += 1;
     }
     run
+}
+
+// How many of a back-end bucket's units the allowance lets be made.
+pub fn allowed(meter: Meter, z: Sizes) -> usize
+    ensures { λ r. ⌜ r ≡ allowed z meter ⌝ }
+{
+    if meter.left < z.p { meter.left } else { z.p }
+}
+
+// The allowance once they were made, and the rest of the bucket's units asked for.
+pub fn spent(meter: Meter, z: Sizes) -> Meter
+    ensures { λ r. ⌜ r ≡ spent z meter ⌝ }
+{
+    if meter.left < z.p {
+        return Meter { left: 0, cut: true };
+    }
+    Meter {
+        left: meter.left - z.p,
+        cut: meter.cut,
+    }
 }

@@ -2,11 +2,12 @@
 use lib.ListN.{length-replicate}
 use native.Mathlib.Omega.{arith}
 use mathlib.Core.Bool.{true≢false}
-use mathlib.Core.Path.{refl, sym, _∙_}
+use mathlib.Core.Path.{refl, sym, ap, _∙_}
 use borrow.Author.Needs.{needs}
 use Rattle.frame.proofs.Meaning.{isBad, callFrom, allowanceOf}
 use Rattle.geometry.specs.Geometry.{device}
 use Rattle.model.specs.Calls.{lentBuffer}
+use Rattle.calls.specs.Arrays.{seen}
 use Rattle.calls.proofs.Asked.{asked-good, asked-narrow, asked-made}
 use Rattle.calls.proofs.make.Statement.{statement}
 use Rattle.calls.proofs.make.Tie as tie
@@ -92,7 +93,7 @@ unfolding lentBuffer callFrom allowanceOf
 returns-2 c = let start = c .before .before .before .before .before .before .before .before .before .before .before .before .before .before .before .before .before .before .before in
     let a = start .args in
     let e = sym (c .before .before .before .before .before .before .before .before .before .before .before .before .request .given .1) ∙ start .pre .0 .1 in
-    rw (c .unread2 .ensures .0, c .unread2 .ensures .1) (asked-made (a .line .now) (start .pre .0 .0) e (a .z) (a .s) (device (a .flash .now) (a .spare .now) (a .disk .now)) refl (c .before .before .before .before .before .before .before .format .ensures))
+    rw (c .unread2 .ensures .0, c .unread2 .ensures .1) (asked-made (a .line .now) (start .pre .0 .0) e (a .z) (a .s) (device (a .flash .now) (a .spare .now) (a .disk .now)) refl (ap seen (c .before .before .before .before .before .before .before .format .ensures)))
 
 same-length-4 : tie.Need-same-length-4
 same-length-4 c = search needs
@@ -130,7 +131,7 @@ unfolding lentBuffer callFrom allowanceOf
 returns-4 c = let start = c .before .before .before .before .before .before .before .before .before .before .before .before .before .before .before .before .before .before .before .before .before .before in
     let a = start .args in
     let e = sym (c .before .before .before .before .before .before .before .before .before .before .before .before .before .before .before .request3 .given .1) ∙ start .pre .0 .1 in
-    rw (c .unread3 .ensures .0, c .unread3 .ensures .1) (asked-made (a .line .now) (start .pre .0 .0) e (a .z) (a .s) (device (a .flash .now) (a .spare .now) (a .disk .now)) refl (c .before .before .before .before .before .before .before .before .before .write-call .ensures))
+    rw (c .unread3 .ensures .0, c .unread3 .ensures .1) (asked-made (a .line .now) (start .pre .0 .0) e (a .z) (a .s) (device (a .flash .now) (a .spare .now) (a .disk .now)) refl (ap seen (c .before .before .before .before .before .before .before .before .before .write-call .ensures)))
 
 same-length-12 : tie.Need-same-length-12
 same-length-12 c = search needs
@@ -146,7 +147,7 @@ unfolding lentBuffer callFrom allowanceOf
 returns-5 c = let start = c .before .before .before .before .before .before .before .before .before .before .before .before .before .before .before .before .before .before .before in
     let a = start .args in
     let e = sym (c .before .before .before .before .before .before .before .before .before .before .before .before .request4 .given .1) ∙ start .pre .0 .1 in
-    rw (c .unread4 .ensures .0, c .unread4 .ensures .1) (asked-made (a .line .now) (start .pre .0 .0) e (a .z) (a .s) (device (a .flash .now) (a .spare .now) (a .disk .now)) refl (c .before .before .before .before .before .before .before .erase-step .ensures))
+    rw (c .unread4 .ensures .0, c .unread4 .ensures .1) (asked-made (a .line .now) (start .pre .0 .0) e (a .z) (a .s) (device (a .flash .now) (a .spare .now) (a .disk .now)) refl (ap seen (c .before .before .before .before .before .before .before .erase-step .ensures)))
 
 same-length-15 : tie.Need-same-length-15
 same-length-15 c = search needs
@@ -162,7 +163,7 @@ unfolding lentBuffer callFrom allowanceOf
 returns-6 c = let start = c .before .before .before .before .before .before .before .before .before .before .before .before .before .before .before .before .before .before .before in
     let a = start .args in
     let e = sym (c .before .before .before .before .before .before .before .before .before .before .before .before .request5 .given .1) ∙ start .pre .0 .1 in
-    rw (c .unread5 .ensures .0, c .unread5 .ensures .1) (asked-made (a .line .now) (start .pre .0 .0) e (a .z) (a .s) (device (a .flash .now) (a .spare .now) (a .disk .now)) refl (c .before .before .before .before .before .before .before .drain .ensures))
+    rw (c .unread5 .ensures .0, c .unread5 .ensures .1) (asked-made (a .line .now) (start .pre .0 .0) e (a .z) (a .s) (device (a .flash .now) (a .spare .now) (a .disk .now)) refl (ap seen (c .before .before .before .before .before .before .before .drain .ensures)))
 
 same-length-18 : tie.Need-same-length-18
 same-length-18 c = search needs
@@ -178,7 +179,7 @@ unfolding lentBuffer callFrom allowanceOf
 returns-7 c = let start = c .before .before .before .before .before .before .before .before .before .before .before .before .before .before .before .before .before .before .before in
     let a = start .args in
     let e = sym (c .before .before .before .before .before .before .before .before .before .before .before .before .request6 .given .1) ∙ start .pre .0 .1 in
-    rw (c .unread6 .ensures .0, c .unread6 .ensures .1) (asked-made (a .line .now) (start .pre .0 .0) e (a .z) (a .s) (device (a .flash .now) (a .spare .now) (a .disk .now)) refl (c .before .before .before .before .before .before .before .recover .ensures))
+    rw (c .unread6 .ensures .0, c .unread6 .ensures .1) (asked-made (a .line .now) (start .pre .0 .0) e (a .z) (a .s) (device (a .flash .now) (a .spare .now) (a .disk .now)) refl (ap seen (c .before .before .before .before .before .before .before .recover .ensures)))
 
 pub make-spec : {M : Type 1} → statement M
 make-spec =

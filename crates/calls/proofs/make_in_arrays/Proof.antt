@@ -7,7 +7,7 @@ use Rattle.geometry.proofs.Passed.{products}
 use Rattle.geometry.specs.Geometry.{device}
 use Rattle.model.specs.Driving.{lend, giveBack}
 use Rattle.model.specs.Sizes.{bucketSize, flashSize, spareSize, diskSize}
-use Rattle.calls.specs.Arrays.{inArrays}
+use Rattle.calls.specs.Arrays.{inArrays, seen}
 use Rattle.calls.proofs.make_in_arrays.Statement.{statement}
 use Rattle.calls.proofs.make_in_arrays.Tie as tie
 
@@ -66,7 +66,7 @@ same-length-4 : tie.Need-same-length-4
 same-length-4 c = search needs
 
 returns : tie.Need-returns
-unfolding bucketSize flashSize spareSize diskSize lend giveBack inArrays
+unfolding bucketSize flashSize spareSize diskSize lend giveBack inArrays seen
 returns c = let a = c .before .before .before .before .before .before .before .before .before .before .before .before .before .before .before .before .before .before .before .before .before .before .args in (ap (inArrays (a .z) (device (a .flash .now) (a .spare .now) (a .disk .now))) (c .before .before .before .before .before .before .before .before .make .ensures .0), c .before .before .before .before .before .before .before .before .make .ensures .1)
 
 pub make-in-arrays-spec : {M : Type 1} → statement M

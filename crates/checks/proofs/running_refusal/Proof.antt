@@ -21,35 +21,35 @@ lent-refusal-requires c κs = search needs
 returns : tie.Need-returns
 unfolding runningTests
 returns c =
-    let a = c .before .before .before .before .before .args in
+    let a = c .before .before .before .before .before .before .args in
     stays (lentTests (a .s .sizes) (device (a .flash .now) (a .spare .now) (a .disk .now))) _ (c .before .lent-refusal .ensures) (c .if1 .taken)
 
 returns-2 : tie.Need-returns-2
 returns-2 c =
-    let a = c .before .before .before .before .before .before .before .args in
+    let a = c .before .before .before .before .before .before .before .before .args in
     let d = device (a .flash .now) (a .spare .now) (a .disk .now) in
     rw (running-rest (viewOf (a .s)) d (sym (c .before .before .before .lent-refusal .ensures) ∙ c .before .before .if1 .left), not-true (a .s .running) (c .if2 .taken))
 
 well-formed-requires : tie.Need-well-formed-requires
 well-formed-requires c κs =
-    let a = c .before .before .before .before .before .before .before .args in
+    let a = c .before .before .before .before .before .before .before .before .args in
     chip-opens (a .s .sizes) (device (a .flash .now) (a .spare .now) (a .disk .now)) (sym (c .before .before .before .lent-refusal .ensures) ∙ c .before .before .if1 .left)
 
 returns-3 : tie.Need-returns-3
 returns-3 c =
-    let a = c .before .before .before .before .before .before .before .before .before .args in
+    let a = c .before .before .before .before .before .before .before .before .before .before .args in
     let d = device (a .flash .now) (a .spare .now) (a .disk .now) in
     let formed : wellFormed (a .s .sizes) d ≡ false = sym (c .before .well-formed .ensures ∙ same-well-formed (a .s .sizes) d) ∙ not-true (c .before .well-formed .result) (c .if3 .taken) in
     rw (running-rest (viewOf (a .s)) d (sym (c .before .before .before .before .before .lent-refusal .ensures) ∙ c .before .before .before .before .if1 .left), formed, not-false (a .s .running) (c .before .before .if2 .left))
 
 state-fits-requires : tie.Need-state-fits-requires
 state-fits-requires c κs =
-    let a = c .before .before .before .before .before .before .before .before .before .args in
+    let a = c .before .before .before .before .before .before .before .before .before .before .args in
     (chip-opens (a .s .sizes) (device (a .flash .now) (a .spare .now) (a .disk .now)) (sym (c .before .before .before .before .before .lent-refusal .ensures) ∙ c .before .before .before .before .if1 .left), sym (c .before .well-formed .ensures) ∙ not-false (c .before .well-formed .result) (c .if3 .left))
 
 returns-4 : tie.Need-returns-4
 returns-4 c =
-    let a = c .before .before .before .before .before .before .before .before .before .before .before .args in
+    let a = c .before .before .before .before .before .before .before .before .before .before .before .before .args in
     let d = device (a .flash .now) (a .spare .now) (a .disk .now) in
     let formed : wellFormed (a .s .sizes) d ≡ true = sym (c .before .before .before .well-formed .ensures ∙ same-well-formed (a .s .sizes) d) ∙ not-false (c .before .before .before .well-formed .result) (c .before .before .if3 .left) in
     let fits : stateFits (viewOf (a .s)) d ≡ true = sym (c .before .state-fits .ensures ∙ same-fits (viewOf (a .s)) d) ∙ c .if4 .taken in
@@ -57,7 +57,7 @@ returns-4 c =
 
 returns-5 : tie.Need-returns-5
 returns-5 c =
-    let a = c .before .before .before .before .before .before .before .before .before .before .before .args in
+    let a = c .before .before .before .before .before .before .before .before .before .before .before .before .args in
     let d = device (a .flash .now) (a .spare .now) (a .disk .now) in
     let formed : wellFormed (a .s .sizes) d ≡ true = sym (c .before .before .before .well-formed .ensures ∙ same-well-formed (a .s .sizes) d) ∙ not-false (c .before .before .before .well-formed .result) (c .before .before .if3 .left) in
     let fits : stateFits (viewOf (a .s)) d ≡ false = sym (c .before .state-fits .ensures ∙ same-fits (viewOf (a .s)) d) ∙ c .if4 .left in

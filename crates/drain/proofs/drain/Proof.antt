@@ -1,5 +1,5 @@
 use borrow.Author.Needs.{needs}
-use mathlib.Core.Path.{sym, _∙_}
+use mathlib.Core.Path.{sym}
 use Rattle.state.specs.View.{viewOf}
 use Rattle.geometry.specs.Geometry.{device}
 use Rattle.outcome.proofs.Ends.{handed-taken, handed-refused}
@@ -14,7 +14,7 @@ running-refusal-requires c κs = search needs
 
 drain-whole-requires : tie.Need-drain-whole-requires
 drain-whole-requires c κs = let a = c .before .before .before .before .before .before .before .before .before .before .before .args in
-    let opened = running-opens (viewOf (a .s)) (device (a .flash .now) (a .spare .now) (a .disk .now)) (sym (c .before .before .before .before .running-refusal .ensures) ∙ c .before .before .before .if1 .taken) in
+    let opened = running-opens (viewOf (a .s)) (device (a .flash .now) (a .spare .now) (a .disk .now)) (rw (← c .before .before .before .before .running-refusal .ensures) (c .before .before .before .if1 .taken)) in
     (opened .image .lent, drains opened)
 
 refused-requires : tie.Need-refused-requires
@@ -33,7 +33,7 @@ returns : tie.Need-returns
 unfolding tests refusal planOf
 returns c = let a = c .before .before .before .before .before .before .before .before .before .before .before .before .before .before .before .before .before .before .args in
     let d = device (a .flash .now) (a .spare .now) (a .disk .now) in
-    c .before .before .before .before .before .before .drain-whole .ensures ∙ handed-taken (a .allowance) drainCall (a .s) d (sym (c .before .before .before .before .before .before .before .before .before .before .before .running-refusal .ensures) ∙ c .before .before .before .before .before .before .before .before .before .before .if1 .taken)
+    rw (c .before .before .before .before .before .before .drain-whole .ensures) (handed-taken (a .allowance) drainCall (a .s) d (rw (← c .before .before .before .before .before .before .before .before .before .before .before .running-refusal .ensures) (c .before .before .before .before .before .before .before .before .before .before .if1 .taken)))
 
 same-length-4 : tie.Need-same-length-4
 same-length-4 c = search needs

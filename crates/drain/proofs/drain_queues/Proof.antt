@@ -1,14 +1,27 @@
-use Rattle.unclean.proofs.Leaves.{same-drained}
-use Rattle.steps.specs.Turns.{after}
-use Rattle.state.specs.View.{viewOf}
-use Rattle.geometry.specs.Geometry.{device}
-use mathlib.Core.Path.{_∙_}
 use borrow.Author.Needs.{needs}
+use mathlib.Core.Path.{_≡_, sym, _∙_}
+use native.Mathlib.Omega.{arith}
+use lib.ListN.{length}
+use lib.Seq.{length-take-le}
+use Rattle.geometry.specs.Geometry.{device}
+use Rattle.state.specs.View.{viewOf}
+use Rattle.steps.specs.Turns.{after}
+use Rattle.unclean.proofs.Leaves.{same-drained}
 use Rattle.drain.proofs.drain_queues.Statement.{statement}
 use Rattle.drain.proofs.drain_queues.Tie as tie
 
 drained-requires : tie.Need-drained-requires
 drained-requires c κs = search needs
+
+array-share-prefix-backs : tie.Need-array-share-prefix-backs
+array-share-prefix-backs c = let w = c .before .before .drained in
+    let n : length (w .result .backs) ≡ 256 = search needs in
+    omega (arith, w .ensures .1 .0)
+
+slice-aggregate-write-units : tie.Need-slice-aggregate-write-units
+slice-aggregate-write-units c = let w = c .before .before .before .drained in
+    let n : length (w .result .backs) ≡ 256 = search needs in
+    sym (length-take-le (w .result .count) (w .result .backs) (omega (arith, w .ensures .1 .0)))
 
 write-units-requires : tie.Need-write-units-requires
 write-units-requires c κs = search needs
@@ -24,15 +37,18 @@ same-length-3 c = search needs
 
 returns : tie.Need-returns
 unfolding after
-returns c = let a = c .before .before .before .before .before .before .before .before .before .before .before .before .before .before .before .before .before .args in
+returns c = let a = c .before .before .before .before .before .before .before .before .before .before .before .before .before .before .before .before .before .before .args in
     let d = device (a .flash .now) (a .spare .now) (a .disk .now) in
-    (rw (c .before .before .before .before .before .before .write-units .ensures .0, c .before .before .before .before .before .before .before .before .before .before .before .before .drained .ensures .0 ∙ same-drained (a .s .sizes) d (viewOf (a .s))), c .before .before .before .before .before .before .write-units .ensures .1)
+    let w = c .before .before .before .before .before .before .write-units .ensures in
+    (rw (w .0, c .before .before .before .before .before .before .before .before .before .before .before .before .before .drained .ensures .0 ∙ same-drained (a .s .sizes) d (viewOf (a .s))), w .1)
 
 pub drain-queues-spec : {M : Type 1} → statement M
 drain-queues-spec =
     tie.close
     (tie.spec
     drained-requires
+    array-share-prefix-backs
+    slice-aggregate-write-units
     write-units-requires
     same-length
     same-length-2

@@ -1,8 +1,3 @@
-use mathlib.Core.Path.{_∙_, ap}
-use mathlib.Core.List.{List}
-use Prim.Native.Nat.{ℕ}
-use Rattle.meter.specs.Run.{running, runAll}
-use Rattle.model.specs.Stores.{unitStores}
 use Rattle.model.specs.Operations.{drainStores}
 use borrow.Author.Needs.{needs}
 use Rattle.drain.proofs.write_back.Statement.{statement}
@@ -28,9 +23,8 @@ same-length-4 c = search needs
 
 returns : tie.Need-returns
 unfolding drainStores
-returns c = let a = c .before .before .before .before .before .before .before .before .before .before .before .before .before .before .before .before .before .before .before .before .before .before .args in
-    let w = c .before .before .before .before .before .before .write-units .ensures in
-    (w .0 ∙ ap (λ (bytes : List ℕ). runAll (a .s .sizes) (unitStores (a .s .sizes) (a .b) bytes) (running (a .flash .now) (a .spare .now) (a .disk .now) (a .meter))) (c .before .before .before .before .before .before .before .before .before .before .before .before .before .merged-into .ensures), w .1)
+returns c = let w = c .before .before .before .before .before .before .write-units .ensures in
+    (rw (c .before .before .before .before .before .before .before .before .before .before .before .before .before .merged-into .ensures) at (w .0), w .1)
 
 pub write-back-spec : {M : Type 1} → statement M
 write-back-spec =

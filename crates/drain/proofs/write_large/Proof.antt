@@ -7,17 +7,17 @@ use Rattle.drain.proofs.write_large.Statement.{statement}
 use Rattle.drain.proofs.write_large.Tie as tie
 
 mul-size : tie.Need-mul-size
-mul-size c = omega (arith, products (c .before .before .before .before .before .pre .1 .drains .orderly .limits))
+mul-size c = omega (arith, products (c .before .before .before .before .before .before .pre .1 .drains .orderly .limits))
 
 array-borrow-prefix-buffer : tie.Need-array-borrow-prefix-buffer
-array-borrow-prefix-buffer c = omega (arith, products (c .before .before .before .before .before .pre .1 .drains .orderly .limits))
+array-borrow-prefix-buffer c = omega (arith, products (c .before .before .before .before .before .before .pre .1 .drains .orderly .limits))
 
 slice-aggregate-write-listed : tie.Need-slice-aggregate-write-listed
-slice-aggregate-write-listed c = simp length-take (omega (arith, products (c .before .before .before .before .before .before .pre .1 .drains .orderly .limits)))
+slice-aggregate-write-listed c = simp length-take (omega (arith, products (c .before .before .before .before .before .before .before .pre .1 .drains .orderly .limits)))
 
 write-listed-requires : tie.Need-write-listed-requires
 unfolding bucketSize
-write-listed-requires c κs = let p = c .before .before .before .before .before .before .before .before .before .pre in
+write-listed-requires c κs = let p = c .before .before .before .before .before .before .before .before .before .before .pre in
     (p .0, (p .1, simp length-take (omega (arith, products (p .1 .drains .orderly .limits)))))
 
 same-length : tie.Need-same-length

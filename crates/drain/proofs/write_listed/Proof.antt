@@ -1,25 +1,24 @@
 use mathlib.Core.Path.{_≡_, ap, _∙_}
 use Prim.Native.Nat.{_≤_, _<_, _+_, _-_}
 use native.Mathlib.Omega.{arith}
-use mathlib.Core.List.{List}
 use mathlib.Core.Bool.{true}
-use lib.ListN.{length, take}
+use lib.ListN.{length}
 use Rattle.state.specs.View.{viewOf}
 use Rattle.meter.specs.Run.{running, runAll}
 use Rattle.geometry.specs.Geometry.{device, Lent}
-use Rattle.model.specs.Operations.{unclean, drainStores, drain}
-use Rattle.model.specs.Stores.{Store}
+use Rattle.model.specs.Operations.{unclean, drain}
 use Rattle.model.specs.Sizes.{bucketSize}
 use Rattle.order.proofs.Next.{next}
 use Rattle.drain.proofs.Stores.{storesTo, next-unclean, stores-start, stores-more}
 use Rattle.gather.proofs.Gathered.{sources-of}
 use Rattle.drain.proofs.Ahead.{Ahead, ahead-start, stores-ahead, ahead-more}
-use Rattle.drain.specs.Listed.{Drains}
+use Rattle.model.specs.Image.{wellFormed}
+use Rattle.image.specs.Chip.{spareOnly}
 use Rattle.drain.proofs.write_listed.Statement.{statement}
 use Rattle.drain.proofs.write_listed.Tie as tie
 
 abbrev Inv-loop : tie.InvT-loop
-Inv-loop s backs count buffer₀ flash₀ spare₀ disk₀ end left₀ b₀ buffer flash spare disk left b = (b ≤ s .sizes .b)
+Inv-loop s backs buffer₀ flash₀ spare₀ disk₀ end left₀ b₀ buffer flash spare disk left b = (b ≤ s .sizes .b)
     × Lent (s .sizes) flash spare disk
     × (length buffer ≡ bucketSize (s .sizes))
     × (b < s .sizes .b → unclean (s .sizes) (device flash₀ spare₀ disk₀) (viewOf s) b ≡ true)
@@ -27,18 +26,18 @@ Inv-loop s backs count buffer₀ flash₀ spare₀ disk₀ end left₀ b₀ buff
     × Ahead (s .sizes) b (device flash₀ spare₀ disk₀) (device flash spare disk)
 
 abbrev μ-loop : tie.MeasureT-loop
-μ-loop s backs count buffer₀ flash₀ spare₀ disk₀ end left₀ b₀ buffer flash spare disk left b = s .sizes .b - b
+μ-loop s backs buffer₀ flash₀ spare₀ disk₀ end left₀ b₀ buffer flash spare disk left b = s .sizes .b - b
 
 next-of-requires : tie.Need-next-of-requires Inv-loop μ-loop
-next-of-requires c κs = c .before .before .before .before .pre .1 .0 .few
+next-of-requires c κs = (omega arith, omega (arith, c .before .before .before .before .before .pre .1 .0 .drains .orderly .limits .b-high))
 
 loop-holds : tie.Need-loop-holds Inv-loop μ-loop
-loop-holds c = let a = c .before .before .before .before .before .args in
-    let p = c .before .before .before .before .before .pre in
+loop-holds c = let a = c .before .before .before .before .before .before .args in
+    let p = c .before .before .before .before .before .before .pre in
     let s = viewOf (a .s) in
     let z = s .sizes in
     let d = device (a .flash .now) (a .spare .now) (a .disk .now) in
-    let listed = take (a .count) (a .backs) in
+    let listed = a .backs .now in
     let n = c .next-of .ensures in (
       omega (arith, n, next 0 (z .b) listed .high),
       p .0,
@@ -49,29 +48,31 @@ loop-holds c = let a = c .before .before .before .before .before .args in
     )
 
 cast-write-back : tie.Need-cast-write-back Inv-loop μ-loop
-cast-write-back c = omega (arith, c .before .before .before .before .before .before .before .pre .1 .0 .drains .orderly .limits .b-high)
+cast-write-back c = omega (arith, c .before .before .before .before .before .before .before .before .pre .1 .0 .drains .orderly .limits .b-high)
 
 write-back-requires : tie.Need-write-back-requires Inv-loop μ-loop
-write-back-requires c κs = let p = c .before .before .before .before .before .before .before .before .before .before .before .pre in
+write-back-requires c κs = let p = c .before .before .before .before .before .before .before .before .before .before .before .before .pre in
     let l = c .before .before .before .before .before .loop in
-    let drains : Drains (viewOf (c .before .before .before .before .before .before .before .before .before .before .before .args .s)) (l .spare) = record { orderly = p .1 .0 .drains .orderly; well-formed = rw (l .inv .5 .spare) (p .1 .0 .drains .well-formed) } in
-    (sources-of (drains .orderly) (drains .well-formed) (c .before .before .before .before .loop-test .taken) (l .inv .1), l .inv .2)
+    let well : wellFormed (c .before .before .before .before .before .before .before .before .before .before .before .before .args .s .sizes) (spareOnly (l .spare)) ≡ true = rw (l .inv .5 .spare) (p .1 .0 .drains .well-formed) in
+    (sources-of (p .1 .0 .drains .orderly) well (c .before .before .before .before .loop-test .taken) (l .inv .1), l .inv .2)
 
 add-next-of : tie.Need-add-next-of Inv-loop μ-loop
-add-next-of c = omega (arith, c .before .before .before .before .before .before .before .before .before .before .before .before .before .loop-test .taken, c .before .before .before .before .before .before .before .before .before .before .before .before .before .before .before .before .before .before .before .before .pre .1 .0 .drains .orderly .limits .b-high)
+add-next-of c = omega (arith, c .before .before .before .before .before .before .before .before .before .before .before .before .before .loop-test .taken, c .before .before .before .before .before .before .before .before .before .before .before .before .before .before .before .before .before .before .before .before .before .pre .1 .0 .drains .orderly .limits .b-high)
 
 next-of-requires-2 : tie.Need-next-of-requires-2 Inv-loop μ-loop
-next-of-requires-2 c κs = c .before .before .before .before .before .before .before .before .before .before .before .before .before .before .before .before .before .before .before .before .pre .1 .0 .few
+next-of-requires-2 c κs = let high = c .before .before .before .before .before .before .before .before .before .before .before .before .before .before .before .before .before .before .before .before .before .pre .1 .0 .drains .orderly .limits .b-high in
+    let below = c .before .before .before .before .before .before .before .before .before .before .before .before .before .loop-test .taken in
+    (omega (arith, high, below), omega (arith, high))
 
 loop-less : tie.Need-loop-less Inv-loop μ-loop
-loop-less c = let a = c .before .before .before .before .before .before .before .before .before .before .before .before .before .before .before .before .before .before .before .before .before .args in
+loop-less c = let a = c .before .before .before .before .before .before .before .before .before .before .before .before .before .before .before .before .before .before .before .before .before .before .args in
     let l = c .before .before .before .before .before .before .before .before .before .before .before .before .before .before .before .loop in
     let h = c .before .before .before .before .before .before .before .before .before .before .before .before .before .before .loop-test .taken in
-    omega (arith, c .next-of2 .ensures, h, next (l .b + 1) (a .s .sizes .b) (take (a .count) (a .backs)) .low (omega arith))
+    omega (arith, c .next-of2 .ensures, h, next (l .b + 1) (a .s .sizes .b) (a .backs .now) .low (omega arith))
 
 loop-again : tie.Need-loop-again Inv-loop μ-loop
-loop-again c = let a = c .before .before .before .before .before .before .before .before .before .before .before .before .before .before .before .before .before .before .before .before .before .args in
-    let p = c .before .before .before .before .before .before .before .before .before .before .before .before .before .before .before .before .before .before .before .before .before .pre in
+loop-again c = let a = c .before .before .before .before .before .before .before .before .before .before .before .before .before .before .before .before .before .before .before .before .before .before .args in
+    let p = c .before .before .before .before .before .before .before .before .before .before .before .before .before .before .before .before .before .before .before .before .before .before .pre in
     let l = c .before .before .before .before .before .before .before .before .before .before .before .before .before .before .before .loop in
     let h = c .before .before .before .before .before .before .before .before .before .before .before .before .before .before .loop-test .taken in
     let w = c .before .before .before .before .before .before .before .before .before .write-back .ensures in
@@ -80,36 +81,33 @@ loop-again c = let a = c .before .before .before .before .before .before .before
     let z = s .sizes in
     let d = device (a .flash .now) (a .spare .now) (a .disk .now) in
     let start = running (a .flash .now) (a .spare .now) (a .disk .now) (a .meter) in
-    let listed = take (a .count) (a .backs) in
+    let listed = a .backs .now in
     let after = next (l .b + 1) (z .b) listed in
-    let drains : Drains s (l .spare) = record { orderly = p .1 .0 .drains .orderly; well-formed = rw (l .inv .5 .spare) (p .1 .0 .drains .well-formed) } in (
+    let well : wellFormed z (spareOnly (l .spare)) ≡ true = rw (l .inv .5 .spare) (p .1 .0 .drains .well-formed) in (
       omega (arith, n, after .high),
       w .1,
       omega (arith, c .before .before .before .before .before .before .before .before .buffer .given, l .inv .2),
       λ g. ap (unclean z d s) n ∙ next-unclean z d s listed (p .1 .0 .listed) (l .b + 1) (omega (arith, n)),
-      rw n (w .0
-          ∙ (ap (λ (ss : List Store). runAll z ss (running (l .flash) (l .spare) (l .disk) (l .left))) (stores-ahead z s (l .b) (l .inv .5))
-          ∙ (ap (runAll z (drainStores z d s (l .b))) (l .inv .4)
-          ∙ stores-more z d s listed (p .1 .0 .listed) (l .b) start h (l .inv .3 h)))),
-      ahead-more (sources-of (drains .orderly) (drains .well-formed) h (l .inv .1)) (l .left) (w .0) (l .inv .5) _ (omega (arith, n, after .low (omega arith))),
+      rw (n, w .0, stores-ahead z s (l .b) (l .inv .5), l .inv .4) (stores-more z d s listed (p .1 .0 .listed) (l .b) start h (l .inv .3 h)),
+      ahead-more (sources-of (p .1 .0 .drains .orderly) well h (l .inv .1)) (l .left) (w .0) (l .inv .5) _ (omega (arith, n, after .low (omega arith))),
     )
 
 same-length : tie.Need-same-length Inv-loop μ-loop
-same-length c = omega (arith, c .before .loop .inv .2, c .before .before .before .before .before .before .before .pre .1 .1)
+same-length c = omega (arith, c .before .loop .inv .2, c .before .before .before .before .before .before .before .before .pre .1 .1)
 
 same-length-2 : tie.Need-same-length-2 Inv-loop μ-loop
-same-length-2 c = omega (arith, c .before .loop .inv .1 .flash-length, c .before .before .before .before .before .before .before .pre .0 .flash-length)
+same-length-2 c = omega (arith, c .before .loop .inv .1 .flash-length, c .before .before .before .before .before .before .before .before .pre .0 .flash-length)
 
 same-length-3 : tie.Need-same-length-3 Inv-loop μ-loop
-same-length-3 c = omega (arith, c .before .loop .inv .1 .spare-length, c .before .before .before .before .before .before .before .pre .0 .spare-length)
+same-length-3 c = omega (arith, c .before .loop .inv .1 .spare-length, c .before .before .before .before .before .before .before .before .pre .0 .spare-length)
 
 same-length-4 : tie.Need-same-length-4 Inv-loop μ-loop
-same-length-4 c = omega (arith, c .before .loop .inv .1 .disk-length, c .before .before .before .before .before .before .before .pre .0 .disk-length)
+same-length-4 c = omega (arith, c .before .loop .inv .1 .disk-length, c .before .before .before .before .before .before .before .before .pre .0 .disk-length)
 
 returns : tie.Need-returns Inv-loop μ-loop
 unfolding drain storesTo
 returns c = let l = c .before .loop in
-    let e : l .b ≡ c .before .before .before .before .before .before .before .args .s .sizes .b = omega arith in
+    let e : l .b ≡ c .before .before .before .before .before .before .before .before .args .s .sizes .b = omega arith in
     (rw e at (l .inv .4), l .inv .1)
 
 pub write-listed-spec : {M : Type 1} → statement M

@@ -7,19 +7,19 @@ use Rattle.drain.proofs.write_small.Statement.{statement}
 use Rattle.drain.proofs.write_small.Tie as tie
 
 mul-size : tie.Need-mul-size
-mul-size c = omega (arith, products (c .before .before .before .before .before .pre .1 .0 .drains .orderly .limits))
+mul-size c = omega (arith, products (c .before .before .before .before .before .before .pre .1 .0 .drains .orderly .limits))
 
 array-borrow-prefix-buffer : tie.Need-array-borrow-prefix-buffer
 unfolding bucketSize
-array-borrow-prefix-buffer c = omega (arith, c .before .before .before .before .before .pre .1 .1)
+array-borrow-prefix-buffer c = omega (arith, c .before .before .before .before .before .before .pre .1 .1)
 
 slice-aggregate-write-listed : tie.Need-slice-aggregate-write-listed
 unfolding bucketSize
-slice-aggregate-write-listed c = simp length-take (omega (arith, c .before .before .before .before .before .before .pre .1 .1))
+slice-aggregate-write-listed c = simp length-take (omega (arith, c .before .before .before .before .before .before .before .pre .1 .1))
 
 write-listed-requires : tie.Need-write-listed-requires
 unfolding bucketSize
-write-listed-requires c κs = let p = c .before .before .before .before .before .before .before .before .before .pre in
+write-listed-requires c κs = let p = c .before .before .before .before .before .before .before .before .before .before .pre in
     (p .0, (p .1 .0, simp length-take (omega (arith, p .1 .1))))
 
 same-length : tie.Need-same-length

@@ -6,15 +6,15 @@ use Rattle.drain.proofs.write_units.Statement.{statement}
 use Rattle.drain.proofs.write_units.Tie as tie
 
 mul-size : tie.Need-mul-size
-mul-size c = omega (arith, products (c .before .before .before .before .before .pre .1 .drains .orderly .limits))
+mul-size c = omega (arith, products (c .before .before .before .before .before .before .pre .1 .drains .orderly .limits))
 
 write-small-requires : tie.Need-write-small-requires
 unfolding bucketSize
-write-small-requires c κs = let p = c .before .before .before .before .before .before .before .before .before .pre in
+write-small-requires c κs = let p = c .before .before .before .before .before .before .before .before .before .before .pre in
     (p .0, (p .1, c .before .before .before .if1 .taken))
 
 write-large-requires : tie.Need-write-large-requires
-write-large-requires c κs = (c .before .before .before .before .before .before .before .before .before .pre .0, c .before .before .before .before .before .before .before .before .before .pre .1)
+write-large-requires c κs = (c .before .before .before .before .before .before .before .before .before .before .pre .0, c .before .before .before .before .before .before .before .before .before .before .pre .1)
 
 same-length : tie.Need-same-length
 same-length c = search needs

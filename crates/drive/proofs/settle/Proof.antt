@@ -1,12 +1,13 @@
 -- `drive::settle` meets its contract.
+use borrow.Author.Needs.{needs}
 use Rattle.drive.proofs.settle.Statement.{statement}
 use Rattle.drive.proofs.settle.Tie as tie
 
-returns : tie.Need-returns
-returns c = rw (c .if1 .taken)
+sizes-kept-requires : tie.Need-sizes-kept-requires
+sizes-kept-requires c κs = search needs
 
-returns-2 : tie.Need-returns-2
-returns-2 c = rw (c .before .if1 .left)
+returns : tie.Need-returns
+returns c = rw (c .sizes-kept .ensures)
 
 pub settle-spec : {M : Type 1} → statement M
-settle-spec = tie.close (tie.spec returns returns-2)
+settle-spec = tie.close (tie.spec sizes-kept-requires returns)

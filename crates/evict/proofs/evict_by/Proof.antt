@@ -1,15 +1,16 @@
-use mathlib.Core.Path.{refl}
+use mathlib.Core.Path.{refl, _∙_}
+use lib.ListN.{length}
 use Rattle.evict.proofs.Evicted.{dropped-left, evicted-by}
 use Rattle.state.specs.View.{viewOf}
-use Rattle.gather.proofs.Gathered.{sources-of}
+use Rattle.gather.proofs.Gathered.{sources-of, all-shown}
 use native.Mathlib.Omega.{arith}
 use Rattle.evict.proofs.evict_by.Statement.{statement}
 use Rattle.evict.proofs.evict_by.Tie as tie
 
-merged-into-requires : tie.Need-merged-into-requires
-merged-into-requires c κs = let start = c .before .before .before .before .before .before .before .before in
+merged-range-requires : tie.Need-merged-range-requires
+merged-range-requires c κs = let start = c .before .before .before .before .before .before .before .before in
     let evicts = start .pre .1 .0 .0 in
-    (sources-of (evicts .ready .orderly) (start .pre .1 .0 .1) (evicts .back) (start .pre .0), start .pre .1 .1)
+    (sources-of (evicts .ready .orderly) (start .pre .1 .0 .1) (evicts .back) (start .pre .0), omega (arith, start .pre .1 .1))
 
 put-away-requires : tie.Need-put-away-requires
 put-away-requires c κs = let p = c .before .before .before .before .before .before .before .before .before .before .before .before .before .before .before .pre in
@@ -34,14 +35,16 @@ same-length-4 c = omega (arith, c .before .before .before .before .before .befor
 returns : tie.Need-returns
 returns c = let start = c .before .before .before .before .before .before .before .before .before .before .before .before .before .before .before .before .before .before .before .before .before .before .before .before in
     let a = start .args in
+    let evicts = start .pre .1 .0 .0 in
+    let sources = sources-of (evicts .ready .orderly) (start .pre .1 .0 .1) (evicts .back) (start .pre .0) in
     let put = c .before .before .before .before .before .before .before .before .put-away .ensures in
-    (rw (c .drop-write .ensures) (evicted-by (viewOf (a .s)) (a .b) (start .pre .1 .0 .0) (a .s .sizes) _ _ (put .0) refl (c .before .before .before .before .before .before .before .before .before .before .before .before .before .before .before .merged-into .ensures)), put .1)
+    (rw (c .drop-write .ensures) (evicted-by (viewOf (a .s)) (a .b) (start .pre .1 .0 .0) (a .s .sizes) _ _ (put .0) refl (c .before .before .before .before .before .before .before .before .before .before .before .before .before .before .before .merged-range .ensures ∙ all-shown sources (length (a .buffer .now)) (start .pre .1 .1))), put .1)
 
 pub evict-by-spec : {M : Type 1} → statement M
 evict-by-spec =
     tie.close
     (tie.spec
-    merged-into-requires
+    merged-range-requires
     put-away-requires
     drop-write-requires
     same-length

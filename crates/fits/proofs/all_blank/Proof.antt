@@ -1,12 +1,14 @@
 use Rattle.fits.proofs.Blank.{unused-all-blank}
+use Rattle.model.proofs.Limits.{on-chip}
 use Rattle.image.specs.Chip.{spareOnly}
+use Rattle.image.proofs.First.{formed-bucket}
 use native.Mathlib.Omega.{arith}
-use borrow.Author.Needs.{needs}
 use Rattle.fits.proofs.all_blank.Statement.{statement}
 use Rattle.fits.proofs.all_blank.Tie as tie
 
 used-requires : tie.Need-used-requires
-used-requires c κs = search needs
+used-requires c κs = let o = c .before in let a = o .args in
+    (o .pre .0, (on-chip (a .z) (a .c) (o .pre .1 .1), formed-bucket (a .z) (spareOnly (a .spare .now)) (o .pre .1 .0) (a .c) (o .pre .1 .1)))
 
 returns : tie.Need-returns
 returns c = let o = c .before .before in let a = o .args in

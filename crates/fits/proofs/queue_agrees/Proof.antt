@@ -11,6 +11,7 @@ use Rattle.model.specs.State.{caches, isBelow}
 use Rattle.model.proofs.Limits.{on-chip}
 use Rattle.fits.specs.Fits.{agrees}
 use Rattle.image.specs.Chip.{spareOnly}
+use Rattle.image.proofs.First.{formed-bucket}
 use Rattle.queue.specs.View.{noEntry}
 use Rattle.state.proofs.Below.{cache-below}
 use Rattle.fits.proofs.queue_agrees.Statement.{statement}
@@ -29,7 +30,7 @@ loop-holds : tie.Need-loop-holds Inv-loop μ-loop
 unfolding all
 loop-holds c = let q = c .before .before .before .args .queue in
     let u = c .before .used in
-    (search needs, search needs, search (needs, length-mapped), rw (take-used (u .result) (q .len) (q .items) (u .ensures .0)) (c .before .before .before .pre .1), refl)
+    (search needs, search needs, search (needs, length-mapped), rw (take-used (u .result) (q .len) (q .items) (u .ensures .0)) (c .before .before .before .pre .1 .1), refl)
 
 mul-e : tie.Need-mul-e Inv-loop μ-loop
 mul-e c = search needs
@@ -39,8 +40,10 @@ array-copy-out-e c = search needs
 
 entry-agrees-requires : tie.Need-entry-agrees-requires Inv-loop μ-loop
 entry-agrees-requires c κs = let l = c .before .before .loop in
-    let q = c .before .before .before .before .before .before .args in
-    (c .before .before .before .before .before .before .pre .0, on-chip (q .z) _ (cache-below (body (q .z)) (c .before .before .before .before .used .result) (q .queue .items) (l .i) (l .inv .3) (omega arith) (omega arith)))
+    let o = c .before .before .before .before .before .before in
+    let q = o .args in
+    let below = cache-below (body (q .z)) (c .before .before .before .before .used .result) (q .queue .items) (l .i) (l .inv .3) (omega arith) (omega arith) in
+    (o .pre .0, (on-chip (q .z) _ below, formed-bucket (q .z) (spareOnly (q .spare .now)) (o .pre .1 .0) _ below))
 
 add-i : tie.Need-add-i Inv-loop μ-loop
 add-i c = search needs

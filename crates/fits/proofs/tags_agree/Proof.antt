@@ -11,10 +11,10 @@ use Rattle.fits.proofs.tags_agree.Statement.{statement}
 use Rattle.fits.proofs.tags_agree.Tie as tie
 
 queue-agrees-requires : tie.Need-queue-agrees-requires
-queue-agrees-requires c κs = (c .before .before .pre .0, queues-below (viewOf (c .before .before .args .s)) (c .before .before .pre .1 .1) .reads)
+queue-agrees-requires c κs = (c .before .before .pre .0, (c .before .before .pre .1 .0, queues-below (viewOf (c .before .before .args .s)) (c .before .before .pre .1 .1) .reads))
 
 queue-agrees-requires-2 : tie.Need-queue-agrees-requires-2
-queue-agrees-requires-2 c κs = (c .before .before .before .pre .0, queues-below (viewOf (c .before .before .before .args .s)) (c .before .before .before .pre .1 .1) .writes)
+queue-agrees-requires-2 c κs = (c .before .before .before .pre .0, (c .before .before .before .pre .1 .0, queues-below (viewOf (c .before .before .before .args .s)) (c .before .before .before .pre .1 .1) .writes))
 
 free-blank-requires : tie.Need-free-blank-requires
 free-blank-requires c κs = (c .before .before .before .before .pre .0, (c .before .before .before .before .pre .1 .0, queues-below (viewOf (c .before .before .before .before .args .s)) (c .before .before .before .before .pre .1 .1) .free))

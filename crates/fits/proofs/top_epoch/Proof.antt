@@ -8,7 +8,9 @@ use Rattle.lists.specs.Lists.{maxBelow}
 use Rattle.model.specs.Sizes.{body}
 use Rattle.model.specs.State.{topEpoch}
 use Rattle.model.specs.Image.{epochOf}
+use Rattle.model.proofs.Limits.{on-chip}
 use Rattle.image.specs.Chip.{spareOnly}
+use Rattle.image.proofs.First.{formed-bucket}
 use Rattle.fits.proofs.top_epoch.Statement.{statement}
 use Rattle.fits.proofs.top_epoch.Tie as tie
 
@@ -25,8 +27,9 @@ loop-holds : tie.Need-loop-holds Inv-loop μ-loop
 unfolding maxBelow
 loop-holds c = (search needs, refl)
 
-epoch-of-requires : tie.Need-epoch-of-requires Inv-loop μ-loop
-epoch-of-requires c κs = search needs
+epoch-there-requires : tie.Need-epoch-there-requires Inv-loop μ-loop
+epoch-there-requires c κs = let o = c .before .before .before .before in let l = c .before .loop in
+    (o .pre .0, (on-chip (o .args .z) (l .c) (omega arith), formed-bucket (o .args .z) (spareOnly (o .args .spare .now)) (o .pre .1) (l .c) (omega arith)))
 
 cast-epoch : tie.Need-cast-epoch Inv-loop μ-loop
 cast-epoch c = search needs
@@ -40,8 +43,8 @@ loop-less c = search needs
 loop-again : tie.Need-loop-again Inv-loop μ-loop
 unfolding maxBelow
 loop-again c = let l = c .before .before .before .loop in
-    let h : l .top ≤ c .before .epoch-of .result = omega arith in
-    (search needs, rw (add-one (l .c), ← l .inv .1, ← c .before .epoch-of .ensures) (sym (max-eq-right h)))
+    let h : l .top ≤ c .before .epoch-there .result = omega arith in
+    (search needs, rw (add-one (l .c), ← l .inv .1, ← c .before .epoch-there .ensures) (sym (max-eq-right h)))
 
 loop-less-2 : tie.Need-loop-less-2 Inv-loop μ-loop
 loop-less-2 c = search needs
@@ -49,8 +52,8 @@ loop-less-2 c = search needs
 loop-again-2 : tie.Need-loop-again-2 Inv-loop μ-loop
 unfolding maxBelow
 loop-again-2 c = let l = c .before .before .before .loop in
-    let h : c .before .epoch-of .result ≤ l .top = omega arith in
-    (search needs, rw (add-one (l .c), ← c .before .epoch-of .ensures, ← l .inv .1) (sym (max-eq-left h)))
+    let h : c .before .epoch-there .result ≤ l .top = omega arith in
+    (search needs, rw (add-one (l .c), ← c .before .epoch-there .ensures, ← l .inv .1) (sym (max-eq-left h)))
 
 returns : tie.Need-returns Inv-loop μ-loop
 unfolding topEpoch
@@ -66,7 +69,7 @@ top-epoch-spec =
     μ-loop
     body-requires
     loop-holds
-    epoch-of-requires
+    epoch-there-requires
     cast-epoch
     add-c
     loop-less

@@ -13,11 +13,8 @@ use Rattle.gather.proofs.base_range.Tie as tie
 mul-size : tie.Need-mul-size
 mul-size c = omega (arith, products (c .before .before .before .before .before .pre .0))
 
-holds-requires : tie.Need-holds-requires
-holds-requires c κs = search needs
-
-cache-of-requires : tie.Need-cache-of-requires
-cache-of-requires c κs = search needs
+find-requires : tie.Need-find-requires
+find-requires c κs = search needs
 
 cast-c : tie.Need-cast-c
 cast-c c = search needs
@@ -25,8 +22,8 @@ cast-c c = search needs
 piece-range-requires : tie.Need-piece-range-requires
 unfolding bucketSize
 piece-range-requires c κs = let start = c .before .before .before .before .before .before .before .before .before in
-    let on-chip : c .before .cache-of .result < start .args .s .sizes .c = omega (arith, c .before .cache-of .ensures, start .pre .1 .1 .0 .0) in
-    (omega (arith, bucket-data (start .args .s .sizes) (c .before .cache-of .result) on-chip, start .pre .1 .0 .0), start .pre .1 .1 .1)
+    let on-chip : c .before .before .before .find .result .cache < start .args .s .sizes .c = omega (arith, c .before .before .before .find .ensures .1, start .pre .1 .1 .0 .0) in
+    (omega (arith, bucket-data (start .args .s .sizes) (c .before .before .before .find .result .cache) on-chip, start .pre .1 .0 .0), start .pre .1 .1 .1)
 
 piece-range-requires-2 : tie.Need-piece-range-requires-2
 unfolding bucketSize diskSize
@@ -39,22 +36,21 @@ same-length c = search needs
 
 returns : tie.Need-returns
 unfolding baseBytes bucketBytes bucketSize
-returns c = λ spare. rw (sym (c .before .before .before .before .before .before .holds .ensures) ∙ c .before .before .before .before .before .if1 .taken, ← c .before .before .before .before .cache-of .ensures) (c .before .before .piece-range .ensures)
+returns c = λ spare. rw (sym (c .before .before .before .before .before .before .find .ensures .0) ∙ c .before .before .before .before .before .if1 .taken, ← c .before .before .before .before .before .before .find .ensures .1) (c .before .before .piece-range .ensures)
 
 same-length-2 : tie.Need-same-length-2
 same-length-2 c = search needs
 
 returns-2 : tie.Need-returns-2
 unfolding baseBytes diskBytes bucketSize
-returns-2 c = λ spare. rw (sym (c .before .before .before .before .before .holds .ensures) ∙ c .before .before .before .before .if1 .left) (c .before .before .piece-range2 .ensures)
+returns-2 c = λ spare. rw (sym (c .before .before .before .before .before .find .ensures .0) ∙ c .before .before .before .before .if1 .left) (c .before .before .piece-range2 .ensures)
 
 pub base-range-spec : {M : Type 1} → statement M
 base-range-spec =
     tie.close
     (tie.spec
     mul-size
-    holds-requires
-    cache-of-requires
+    find-requires
     cast-c
     piece-range-requires
     piece-range-requires-2

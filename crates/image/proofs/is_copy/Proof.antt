@@ -1,30 +1,20 @@
-use mathlib.Core.Bool.{not}
-use mathlib.Core.Path.{sym, ap, _∙_}
-use lib.Dec.{eqb}
-use borrow.Author.Needs.{needs}
-use Rattle.model.specs.Spare.{kind}
-use Rattle.model.specs.Image.{headTag, isCopy, used}
-use Rattle.spare.proofs.Looked.{seen-blank, seen-programmed}
-use Rattle.spare.specs.Fields.{fields}
+use Rattle.model.specs.Image.{headTag, used, isCopy}
+use Rattle.image.proofs.First.{first-inside, first-tag, kind-blank}
+use Rattle.image.specs.Chip.{spareOnly}
+use native.Mathlib.Omega.{arith}
 use Rattle.image.proofs.is_copy.Statement.{statement}
 use Rattle.image.proofs.is_copy.Tie as tie
 
-look-requires : tie.Need-look-requires
-look-requires c κs = search needs
+mul-kind-at : tie.Need-mul-kind-at
+mul-kind-at c = let p = c .before .before .pre in omega (arith, first-inside (p .0) (p .1 .0))
 
-enum-told : tie.Need-enum-told
-enum-told c = search needs
-
-enum-known-page : tie.Need-enum-known-page
-enum-known-page c = search needs
+kind-at-requires : tie.Need-kind-at-requires
+kind-at-requires c κs = let p = c .before .before .pre in first-inside (p .0) (p .1 .0)
 
 returns : tie.Need-returns
-unfolding isCopy used headTag kind
-returns c = rw (seen-blank _ (sym (c .before .before .look .ensures) ∙ c .enum-told .given .1))
-
-returns-2 : tie.Need-returns-2
-unfolding isCopy used headTag kind fields
-returns-2 c = let e = seen-programmed _ _ (sym (c .before .before .before .before .look .ensures) ∙ c .before .before .page .given .1) in rw (e .0) (ap (λ f. not (eqb (f .kind) 2)) (sym (e .1)))
+unfolding isCopy used headTag
+returns c = let o = c .before .before .before in let a = o .args in let d = spareOnly (a .spare .now) in
+    rw (c .kind-at .ensures, first-tag (a .z) d (a .c), kind-blank (a .z) d (a .c) 0 (o .pre .1 .1) (omega (arith, o .pre .0 .limits .p-low)))
 
 pub is-copy-spec : {M : Type 1} → statement M
-is-copy-spec = tie.close (tie.spec look-requires enum-told enum-known-page returns returns-2)
+is-copy-spec = tie.close (tie.spec mul-kind-at kind-at-requires returns)

@@ -1,4 +1,4 @@
-use Rattle.once.proofs.Counted.{tests-alike}
+use Rattle.lists.proofs.Rows.{below-alike}
 use Rattle.model.specs.State.{onceIn}
 use Rattle.lists.specs.Lists.{allBelow}
 use Rattle.lists.proofs.Turns.{all-more}
@@ -46,7 +46,7 @@ returns c = let l = c .before .loop in let o = c .before .before .before in
     let e : l .x ≡ o .args .c = omega arith in
     let counts = c .before .before .tally .result in
     (l .inv .3 ∙ ap (λ (n : ℕ). allBelow n (λ k. eqb (getD counts k 0) 1)) e)
-    ∙ tests-alike (o .args .c) (λ k. eqb (getD counts k 0) 1) (onceIn (take (o .args .n) (o .args .items))) (λ k h. ap (λ (m : ℕ). eqb m 1) (c .before .before .tally .ensures .1 k (omega (arith, o .pre .0 .1))))
+    ∙ below-alike (o .args .c) (λ k. eqb (getD counts k 0) 1) (onceIn (take (o .args .n) (o .args .items))) (λ k h. ap (λ (m : ℕ). eqb m 1) (c .before .before .tally .ensures .1 k (omega (arith, o .pre .0 .1))))
 
 pub all-once-spec : {M : Type 1} → statement M
 all-once-spec =

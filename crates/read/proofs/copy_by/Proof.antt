@@ -1,6 +1,9 @@
 use Rattle.model.specs.Calls.{readCall, sizesOf}
 use Rattle.outcome.proofs.Ends.{step-left}
 use native.Mathlib.Omega.{arith}
+use lib.ListN.{length}
+use mathlib.Core.Path.{_∙_}
+use Rattle.gather.proofs.Gathered.{all-shown}
 use Rattle.model.specs.Steps.{merged}
 use Rattle.geometry.specs.Geometry.{device}
 use Rattle.state.specs.View.{viewOf}
@@ -11,9 +14,9 @@ use borrow.Author.Needs.{needs}
 use Rattle.read.proofs.copy_by.Statement.{statement}
 use Rattle.read.proofs.copy_by.Tie as tie
 
-merged-into-requires : tie.Need-merged-into-requires
-merged-into-requires c κs = let p = c .before .before .before .before .before .before .before .before .before .pre in
-    (sources (p .1 .0) (p .0), p .1 .1 .1)
+merged-range-requires : tie.Need-merged-range-requires
+merged-range-requires c κs = let p = c .before .before .before .before .before .before .before .before .before .pre in
+    (sources (p .1 .0) (p .0), omega (arith, p .1 .1 .1))
 
 whole-requires : tie.Need-whole-requires
 whole-requires c κs = search needs
@@ -48,11 +51,12 @@ same-length-5 : tie.Need-same-length-5
 same-length-5 c = search needs
 
 returns : tie.Need-returns
-returns c = let a = c .before .before .before .before .before .before .before .before .before .before .before .before .before .before .before .before .before .before .before .before .before .before .before .before .before .before .before .before .before .before .before .before .args in
+returns c = let start = c .before .before .before .before .before .before .before .before .before .before .before .before .before .before .before .before .before .before .before .before .before .before .before .before .before .before .before .before .before .before .before .before in
+    let a = start .args in
     let z = a .s .sizes in
     let v = viewOf (a .s) in
     let d = device (a .flash .now) (a .spare .now) (a .disk .now) in
-    let bytes = c .before .before .before .before .before .before .before .before .before .before .before .before .before .before .before .before .before .before .before .before .before .before .merged-into .ensures in
+    let bytes = c .before .before .before .before .before .before .before .before .before .before .before .before .before .before .before .before .before .before .before .before .before .before .merged-range .ensures ∙ all-shown (sources (start .pre .1 .0) (start .pre .0)) (length (a .bytes .now)) (start .pre .1 .1 .1) in
     rw (c .finish .ensures)
     (handed-read (a .allowance) (a .s) d (copyOf z (a .b) (merged z v d (a .b))) (rw (bytes, c .before .before .before .before .before .before .before .before .before .before .before .before .before .before .before .before .before .before .before .whole .ensures) at (c .before .before .before .before .before .before .before .before .before .before .before .before .before .before .make-copy .ensures .0)) (a .b) (a .offset) (a .buffer .now) (rw bytes at (c .before .before .before .show .ensures)))
 
@@ -60,7 +64,7 @@ pub copy-by-spec : {M : Type 1} → statement M
 copy-by-spec =
     tie.close
     (tie.spec
-    merged-into-requires
+    merged-range-requires
     whole-requires
     make-copy-requires
     show-requires

@@ -1,35 +1,27 @@
-use Rattle.recover.proofs.Queues.{same-state}
-use Rattle.outcome.proofs.Ends.{left-within, handed-quiet}
-use Rattle.model.specs.Recover.{recover}
-use Rattle.model.specs.Calls.{recoverCall, sizesOf, doneAnswer, lentBuffer, readBuffer}
-use Rattle.geometry.specs.Geometry.{device}
-use mathlib.Core.Path.{refl, _∙_}
+use mathlib.Core.Path.{_≡_, sym, _∙_}
 use native.Mathlib.Omega.{arith}
+use lib.Seq.{length-take-le}
+use lib.ListN.{length}
+use Rattle.lists.proofs.Arrays.{take-used}
 use borrow.Author.Needs.{needs}
 use Rattle.recover.proofs.recover_chip.Statement.{statement}
 use Rattle.recover.proofs.recover_chip.Tie as tie
 
-write-classes-requires : tie.Need-write-classes-requires
-write-classes-requires c κs = search needs
+in-order-requires : tie.Need-in-order-requires
+in-order-requires c κs = search needs
 
-copy-classes-requires : tie.Need-copy-classes-requires
-copy-classes-requires c κs = search needs
+used-requires : tie.Need-used-requires
+used-requires c κs = search needs
 
-recovered-requires : tie.Need-recovered-requires
-recovered-requires c κs = search needs
+array-share-prefix-order : tie.Need-array-share-prefix-order
+array-share-prefix-order c = let n : length (c .before .before .in-order .result .items) ≡ 256 = search needs in omega (arith, c .before .used .ensures .1)
 
-whole-requires : tie.Need-whole-requires
-whole-requires c κs = search needs
+slice-aggregate-recover-writes : tie.Need-slice-aggregate-recover-writes
+slice-aggregate-recover-writes c = let n : length (c .before .before .before .in-order .result .items) ≡ 256 = search needs in sym (length-take-le (c .before .before .used .result) (c .before .before .before .in-order .result .items) (omega (arith, c .before .before .used .ensures .1)))
 
-rescue-requires : tie.Need-rescue-requires
-rescue-requires c κs = search needs
-
-finish-requires : tie.Need-finish-requires
-unfolding sizesOf
-finish-requires c κs =
-    let a = c .before .before .before .before .before .before .before .before .before .before .before .before .before .before .before .before .before .before .before .before .args in
-    let d = device (a .flash .now) (a .spare .now) (a .disk .now) in
-    omega (arith, left-within (a .allowance) (recoverCall (a .z)) (a .s) d (recover (a .z) d) (rw (c .before .before .before .before .before .before .before .before .before .before .whole .ensures) at (c .before .before .before .before .before .before .rescue .ensures .0)))
+recover-writes-requires : tie.Need-recover-writes-requires
+recover-writes-requires c κs = let s = c .before .before .before .before .before .before .before .before .before .before .before in
+    (s .pre, take-used (c .before .before .before .before .before .used .result) (c .before .before .before .before .before .before .in-order .result .len) (c .before .before .before .before .before .before .in-order .result .items) (c .before .before .before .before .before .used .ensures .0) ∙ c .before .before .before .before .before .before .in-order .ensures)
 
 same-length : tie.Need-same-length
 same-length c = search needs
@@ -41,23 +33,17 @@ same-length-3 : tie.Need-same-length-3
 same-length-3 c = search needs
 
 returns : tie.Need-returns
-unfolding sizesOf doneAnswer lentBuffer readBuffer
-returns c =
-    let a = c .before .before .before .before .before .before .before .before .before .before .before .before .before .before .before .before .before .before .before .before .before .args in
-    let d = device (a .flash .now) (a .spare .now) (a .disk .now) in
-    rw (c .finish .ensures, c .before .before .before .before .before .before .before .before .before .before .before .before .recovered .ensures ∙ same-state (a .z) d)
-    (handed-quiet (a .allowance) (recoverCall (a .z)) (a .s) d (recover (a .z) d) refl refl (rw (c .before .before .before .before .before .before .before .before .before .before .before .whole .ensures) at (c .before .before .before .before .before .before .before .rescue .ensures .0)))
+returns c = search needs
 
 pub recover-chip-spec : {M : Type 1} → statement M
 recover-chip-spec =
     tie.close
     (tie.spec
-    write-classes-requires
-    copy-classes-requires
-    recovered-requires
-    whole-requires
-    rescue-requires
-    finish-requires
+    in-order-requires
+    used-requires
+    array-share-prefix-order
+    slice-aggregate-recover-writes
+    recover-writes-requires
     same-length
     same-length-2
     same-length-3

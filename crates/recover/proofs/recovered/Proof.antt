@@ -1,76 +1,55 @@
-use Rattle.recover.proofs.Epochs.{top-fits}
-use Rattle.recover.proofs.Queues.{sorted-as, reads-fit, writes-fit}
-use Rattle.classes.proofs.Choices.{within-as, kept-copies-within, kept-writes-within}
-use Rattle.image.specs.Chip.{spareOnly}
-use Rattle.model.specs.Recover.{recover}
+use mathlib.Core.Path.{_≡_}
 use native.Mathlib.Omega.{arith}
+use Rattle.model.proofs.Formed.{formed-of}
+use Rattle.model.specs.Recover.{byEpoch, isChosen, isDroppedWrite, isDroppedCopy, keptCopies, keptWrites, recover}
+use Rattle.model.specs.Image.{isWrite}
+use Rattle.image.specs.Chip.{spareOnly}
+use Rattle.recover.specs.Places.{differing}
+use Rattle.recover.proofs.Queues.{order-within, column-length, kept-copies, kept-writes, few-copies, few-writes}
+use Rattle.recover.proofs.Epochs.{top-fits}
 use borrow.Author.Needs.{needs}
 use Rattle.recover.proofs.recovered.Statement.{statement}
 use Rattle.recover.proofs.recovered.Tie as tie
 
-by-epoch-requires : tie.Need-by-epoch-requires
-by-epoch-requires c κs =
-    let start = c .before in
-    let z = start .args .z in
-    (start .pre .0, within-as z (start .pre .1 .0 .1 .kept-are) (kept-copies-within z (spareOnly (start .args .spare .now))))
+copies-kept : (s : tie.Start) → differing (s .args .copies .now) (s .args .dropped-copies .now) (s .args .order .now) ≡ byEpoch (s .args .z) (spareOnly (s .args .spare .now)) (keptCopies (s .args .z) (spareOnly (s .args .spare .now)))
+copies-kept s = let k = s .pre .1 .1 in let z = s .args .z in let d = spareOnly (s .args .spare .now) in
+    rw (k .copies-are, k .dropped-copies-are, k .order-is) (kept-copies z d (s .pre .0 .limits) (formed-of z d (s .pre .1 .0)))
+
+writes-kept : (s : tie.Start) → differing (s .args .writes .now) (s .args .dropped-writes .now) (s .args .order .now) ≡ byEpoch (s .args .z) (spareOnly (s .args .spare .now)) (keptWrites (s .args .z) (spareOnly (s .args .spare .now)))
+writes-kept s = let k = s .pre .1 .1 in let z = s .args .z in let d = spareOnly (s .args .spare .now) in
+    rw (k .writes-are, k .dropped-writes-are, k .order-is) (kept-writes z d (s .pre .0 .limits) (formed-of z d (s .pre .1 .0)))
 
 placed-requires : tie.Need-placed-requires
-placed-requires c κs =
-    let start = c .before .before in
-    let z = start .args .z in
-    let d = spareOnly (start .args .spare .now) in
-    (start .pre .0, reads-fit z d (start .pre .0 .limits) (start .pre .1 .1) (sorted-as z d (start .pre .1 .0 .1 .kept-are) (c .by-epoch .ensures)))
-
-by-epoch-requires-2 : tie.Need-by-epoch-requires-2
-by-epoch-requires-2 c κs =
-    let start = c .before .before .before in
-    let z = start .args .z in
-    (start .pre .0, within-as z (start .pre .1 .0 .0 .kept-are) (kept-writes-within z (spareOnly (start .args .spare .now))))
+placed-requires c κs = let s = c .before .before .before .before .before .before in let k = s .pre .1 .1 in let z = s .args .z in let d = spareOnly (s .args .spare .now) in
+    (s .pre .0, (rw (k .order-is) (order-within z d), ((column-length z d (isChosen z d) (k .order-is) (k .copies-are), column-length z d (isDroppedCopy z d) (k .order-is) (k .dropped-copies-are)), rw (copies-kept s) (few-copies z d (s .pre .0 .limits) (formed-of z d (s .pre .1 .0))))))
 
 placed-requires-2 : tie.Need-placed-requires-2
-placed-requires-2 c κs =
-    let start = c .before .before .before .before in
-    let z = start .args .z in
-    let d = spareOnly (start .args .spare .now) in
-    (start .pre .0, writes-fit z d (start .pre .0 .limits) (start .pre .1 .1) (sorted-as z d (start .pre .1 .0 .0 .kept-are) (c .by-epoch2 .ensures)))
+placed-requires-2 c κs = let s = c .before .before .before .before .before .before .before in let k = s .pre .1 .1 in let z = s .args .z in let d = spareOnly (s .args .spare .now) in
+    (s .pre .0, (rw (k .order-is) (order-within z d), ((column-length z d (isWrite z d) (k .order-is) (k .writes-are), column-length z d (isDroppedWrite z d) (k .order-is) (k .dropped-writes-are)), rw (writes-kept s) (few-writes z d (s .pre .0 .limits) (formed-of z d (s .pre .1 .0))))))
 
 retired-requires : tie.Need-retired-requires
-retired-requires c κs = search needs
+retired-requires c κs = let s = c .before .before .before .before .before .before .before .before in let k = s .pre .1 .1 in
+    (s .pre .0, (s .pre .1 .0, (k .order-is, (k .dropped-writes-are, (k .copies-are, k .dropped-copies-are)))))
 
 buckets-requires : tie.Need-buckets-requires
 buckets-requires c κs = search needs
 
 top-epoch-requires : tie.Need-top-epoch-requires
-top-epoch-requires c κs = search needs
+top-epoch-requires c κs = let s = c .before .before .before .before .before .before .before .before .before .before in (s .pre .0, s .pre .1 .0)
 
 add-t13 : tie.Need-add-t13
-add-t13 c =
-    let start = c .before .before .before .before .before .before .before .before in
-    omega (arith, c .top-epoch .ensures, top-fits (start .args .z) (start .pre .0 .limits .p-low) (start .args .spare .now) (λ i. omega (arith, c .before .before .before .before .before .before .before .shared-slice-known .given i)))
+add-t13 c = let s = c .before .before .before .before .before .before .before .before .before .before .before in
+    omega (arith, c .top-epoch .ensures, top-fits (s .args .z) (s .pre .0 .limits .p-low) (s .args .spare .now) (λ i. omega (arith, c .before .before .before .before .before .shared-slice-known6 .given i)))
 
 returns : tie.Need-returns
 unfolding recover
-returns c =
-    let start = c .before .before .before .before .before .before .before .before in
-    let z = start .args .z in
-    let d = spareOnly (start .args .spare .now) in
-    rw (
-      c .before .before .before .before .before .placed .ensures,
-      sorted-as z d (start .pre .1 .0 .1 .kept-are) (c .before .before .before .before .before .before .by-epoch .ensures),
-      c .before .before .before .placed2 .ensures,
-      sorted-as z d (start .pre .1 .0 .0 .kept-are) (c .before .before .before .before .by-epoch2 .ensures),
-      c .before .before .retired .ensures,
-      c .before .buckets .ensures,
-      c .top-epoch .ensures,
-    )
+returns c = let s = c .before .before .before .before .before .before .before .before .before .before .before in rw (c .before .before .before .before .placed .ensures, copies-kept s, c .before .before .before .placed2 .ensures, writes-kept s, c .before .before .retired .ensures, c .before .buckets .ensures, c .top-epoch .ensures)
 
 pub recovered-spec : {M : Type 1} → statement M
 recovered-spec =
     tie.close
     (tie.spec
-    by-epoch-requires
     placed-requires
-    by-epoch-requires-2
     placed-requires-2
     retired-requires
     buckets-requires

@@ -1,63 +1,117 @@
-use Rattle.recover.proofs.Queues.{sorted-as, gc-fits, gc-is}
-use Rattle.classes.proofs.Choices.{within-as, buckets-within}
-use Rattle.model.specs.Recover.{isDroppedWrite, isDroppedCopy, isOldCopy}
+use mathlib.Core.List.{List, [], _++_, append-assoc}
+use Rattle.fifo.specs.declared.Fifo.{Fifo}
+use Rattle.recover.proofs.Queues.{oldCopies, droppedCopies, droppedWrites, gc-fits, gc-is, picked-old, picked-copies, picked-writes}
+use Rattle.recover.specs.Places.{picked}
+use Rattle.classes.proofs.Orders.{order-short}
+use Rattle.classes.specs.Columns.{inOrder, named, column}
+use Rattle.fifo.specs.View.{listOf, fifoOf}
 use Rattle.image.specs.Chip.{spareOnly}
-use lib.ListN.{length-append}
+use Rattle.model.proofs.Formed.{formed-of}
+use Rattle.model.specs.Recover.{isDroppedWrite, isDroppedCopy, isOldCopy}
+use mathlib.Core.Bool.{Bool}
+use mathlib.Core.Path.{_≡_, sym, ap, _∙_}
+use Prim.Native.Nat.{ℕ, _≤_}
 use native.Mathlib.Omega.{arith}
+use lib.Seq.{length-take-le, take-at}
+use lib.ListN.{length, take, drop, length-append, length-map}
+use borrow.Author.Needs.{needs}
 use Rattle.recover.proofs.retired.Statement.{statement}
 use Rattle.recover.proofs.retired.Tie as tie
 
-by-epoch-requires : tie.Need-by-epoch-requires
-by-epoch-requires c κs =
-    let start = c .before in
-    let z = start .args .z in
-    let d = spareOnly (start .args .spare .now) in
-    (start .pre .0, within-as z (start .pre .1 .2) (buckets-within z d (isOldCopy z d)))
+-- the order has a place in a column
+short : (s : tie.Start) → length (s .args .order .now) ≤ 256
+short s = omega (arith, ap length (s .pre .1 .1 .0), order-short (s .args .z) (spareOnly (s .args .spare .now)), s .pre .0 .limits .body-high, s .pre .0 .limits .c-high)
 
-by-epoch-requires-2 : tie.Need-by-epoch-requires-2
-by-epoch-requires-2 c κs =
-    let start = c .before .before in
-    let z = start .args .z in
-    let d = spareOnly (start .args .spare .now) in
-    (start .pre .0, within-as z (start .pre .1 .1) (buckets-within z d (isDroppedCopy z d)))
+-- and a column is as long as the order
+beside : (s : tie.Start) (t : ℕ → Bool) → length (column (s .args .z) (spareOnly (s .args .spare .now)) t) ≡ length (s .args .order .now)
+beside s t = let z = s .args .z in let d = spareOnly (s .args .spare .now) in length-map (inOrder z d) (named z d t) ∙ sym (ap length (s .pre .1 .1 .0))
 
-by-epoch-requires-3 : tie.Need-by-epoch-requires-3
-by-epoch-requires-3 c κs =
-    let start = c .before .before .before in
-    let z = start .args .z in
-    let d = spareOnly (start .args .spare .now) in
-    (start .pre .0, within-as z (start .pre .1 .0) (buckets-within z d (isDroppedWrite z d)))
+-- the column of old copies, lent again
+again : (s : tie.Start) {last : List ℕ} → last ≡ column (s .args .z) (spareOnly (s .args .spare .now)) (isOldCopy (s .args .z) (spareOnly (s .args .spare .now))) → (room : List ℕ)
+    → take (length (s .args .order .now)) (last ++ drop (length (s .args .order .now)) room) ≡ column (s .args .z) (spareOnly (s .args .spare .now)) (isOldCopy (s .args .z) (spareOnly (s .args .spare .now)))
+again s {last} e room =
+    let t = isOldCopy (s .args .z) (spareOnly (s .args .spare .now)) in
+    take-at last (drop (length (s .args .order .now)) room) (length (s .args .order .now)) (ap length e ∙ beside s t) ∙ e
 
-append-requires : tie.Need-append-requires
-append-requires c κs =
-    let start = c .before .before .before .before in
-    let z = start .args .z in
-    let d = spareOnly (start .args .spare .now) in
-    let fits = gc-fits z d (sorted-as z d (start .pre .1 .2) (c .before .before .by-epoch .ensures)) (sorted-as z d (start .pre .1 .1) (c .before .by-epoch2 .ensures)) (sorted-as z d (start .pre .1 .0) (c .by-epoch3 .ensures)) in
-    omega (arith, fits, start .pre .0 .limits .c-high)
+-- what a column picks of the order
+listed : (s : tie.Start) (t : ℕ → Bool) → picked (column (s .args .z) (spareOnly (s .args .spare .now)) t) (s .args .order .now) ≡ picked (column (s .args .z) (spareOnly (s .args .spare .now)) t) (inOrder (s .args .z) (spareOnly (s .args .spare .now)))
+listed s t = ap (picked (column (s .args .z) (spareOnly (s .args .spare .now)) t)) (s .pre .1 .1 .0)
 
-append-requires-2 : tie.Need-append-requires-2
-append-requires-2 c κs =
-    let start = c .before .before .before .before .before in
-    let z = start .args .z in
-    let d = spareOnly (start .args .spare .now) in
-    let fits = gc-fits z d (sorted-as z d (start .pre .1 .2) (c .before .before .before .by-epoch .ensures)) (sorted-as z d (start .pre .1 .1) (c .before .before .by-epoch2 .ensures)) (sorted-as z d (start .pre .1 .0) (c .before .by-epoch3 .ensures)) in
-    rw (c .append .ensures, length-append) (omega (arith, fits, start .pre .0 .limits .c-high))
+first-is : (s : tie.Start) {last list : List ℕ} → last ≡ column (s .args .z) (spareOnly (s .args .spare .now)) (isOldCopy (s .args .z) (spareOnly (s .args .spare .now))) → (room : List ℕ) {none : Fifo} → none ≡ fifoOf []
+    → list ≡ listOf none ++ picked (take (length (s .args .order .now)) (last ++ drop (length (s .args .order .now)) room)) (s .args .order .now) → list ≡ oldCopies (s .args .z) (spareOnly (s .args .spare .now))
+first-is s e room n g =
+    let z = s .args .z in
+    let d = spareOnly (s .args .spare .now) in
+    g ∙ rw (n, again s e room) (listed s (isOldCopy z d) ∙ picked-old z d (s .pre .0 .limits) (formed-of z d (s .pre .1 .0)))
+
+copies-listed : (s : tie.Start) → picked (s .args .dropped-copies .now) (s .args .order .now) ≡ droppedCopies (s .args .z) (spareOnly (s .args .spare .now))
+copies-listed s =
+    let z = s .args .z in
+    let d = spareOnly (s .args .spare .now) in
+    ap (λ (l : List ℕ). picked l (s .args .order .now)) (s .pre .1 .1 .1 .1 .1) ∙ listed s (isDroppedCopy z d) ∙ picked-copies z d (s .pre .0 .limits) (formed-of z d (s .pre .1 .0))
+
+writes-listed : (s : tie.Start) → picked (s .args .dropped-writes .now) (s .args .order .now) ≡ droppedWrites (s .args .z) (spareOnly (s .args .spare .now))
+writes-listed s =
+    let z = s .args .z in
+    let d = spareOnly (s .args .spare .now) in
+    ap (λ (l : List ℕ). picked l (s .args .order .now)) (s .pre .1 .1 .1 .0) ∙ listed s (isDroppedWrite z d) ∙ picked-writes z d (s .pre .0 .limits) (formed-of z d (s .pre .1 .0))
+
+blank-column-requires : tie.Need-blank-column-requires
+blank-column-requires c κs = search needs
+
+array-borrow-prefix-old : tie.Need-array-borrow-prefix-old
+array-borrow-prefix-old c = let s = c .before .before .before .before .before .before in omega (arith, c .blank-column .ensures, short s)
+
+slice-aggregate-old-column : tie.Need-slice-aggregate-old-column
+slice-aggregate-old-column c = let s = c .before .before .before .before .before .before .before in sym (length-take-le (length (s .args .order .now)) (c .before .blank-column .result) (omega (arith, c .before .blank-column .ensures, short s)))
+
+old-column-requires : tie.Need-old-column-requires
+old-column-requires c κs = let s = c .before .before .before .before .before .before .before in
+    (s .pre .0, (s .pre .1 .0, (s .pre .1 .1 .0, (s .pre .1 .1 .1 .1 .0, length-take-le (length (s .args .order .now)) (c .before .blank-column .result) (omega (arith, c .before .blank-column .ensures, short s))))))
+
+array-share-prefix-old : tie.Need-array-share-prefix-old
+array-share-prefix-old c = let s = c .before .before .before .before .before .before .before .before .before in omega (arith, length-append (c .before .old-column .last .1 .1 .1 .1 .0) (drop (length (s .args .order .now)) (c .before .before .before .blank-column .result)), ap length (c .before .old-column .ensures), beside s (isOldCopy (s .args .z) (spareOnly (s .args .spare .now))))
+
+slice-aggregate-gather : tie.Need-slice-aggregate-gather
+slice-aggregate-gather c = let s = c .before .before .before .before .before .before .before .before .before .before in let z = s .args .z in let d = spareOnly (s .args .spare .now) in
+    sym (ap length (again s (c .before .before .old-column .ensures) (c .before .before .before .before .blank-column .result)) ∙ beside s (isOldCopy z d))
+
+empty-requires : tie.Need-empty-requires
+empty-requires c κs = search needs
+
+gather-requires : tie.Need-gather-requires
+gather-requires c κs = let s = c .before .before .before .before .before .before .before .before .before .before .before in let z = s .args .z in let d = spareOnly (s .args .spare .now) in
+    let old = again s (c .before .before .before .old-column .ensures) (c .before .before .before .before .before .blank-column .result) in
+    let first = ap (λ (l : List ℕ). length (picked l (s .args .order .now))) old ∙ ap length (listed s (isOldCopy z d)) ∙ ap length (picked-old z d (s .pre .0 .limits) (formed-of z d (s .pre .1 .0))) in
+    (ap length old ∙ beside s (isOldCopy z d), omega (arith, ap (λ (q : Fifo). length (listOf q)) (c .empty .ensures), first, gc-fits z d, s .pre .0 .limits .body-high, s .pre .0 .limits .c-high))
+
+gather-requires-2 : tie.Need-gather-requires-2
+gather-requires-2 c κs = let s = c .before .before .before .before .before .before .before .before .before .before .before .before in let z = s .args .z in let d = spareOnly (s .args .spare .now) in
+    let second = copies-listed s in
+    (ap length (s .pre .1 .1 .1 .1 .1) ∙ beside s (isDroppedCopy z d), omega (arith, ap length (first-is s (c .before .before .before .before .old-column .ensures) (c .before .before .before .before .before .before .blank-column .result) (c .before .empty .ensures) (c .gather .ensures)), ap length second, gc-fits z d, s .pre .0 .limits .body-high, s .pre .0 .limits .c-high))
+
+gather-requires-3 : tie.Need-gather-requires-3
+gather-requires-3 c κs = let s = c .before .before .before .before .before .before .before .before .before .before .before .before .before in let z = s .args .z in let d = spareOnly (s .args .spare .now) in
+    let first = first-is s (c .before .before .before .before .before .old-column .ensures) (c .before .before .before .before .before .before .before .blank-column .result) (c .before .before .empty .ensures) (c .before .gather .ensures) in
+    (ap length (s .pre .1 .1 .1 .0) ∙ beside s (isDroppedWrite z d), omega (arith, ap length (c .gather2 .ensures), length-append (listOf (c .before .gather .result)) (picked (s .args .dropped-copies .now) (s .args .order .now)), ap length first, ap length (copies-listed s), ap length (writes-listed s), gc-fits z d, s .pre .0 .limits .body-high, s .pre .0 .limits .c-high))
 
 returns : tie.Need-returns
-returns c =
-    let start = c .before .before .before .before .before .before in
-    let z = start .args .z in
-    let d = spareOnly (start .args .spare .now) in
-    gc-is z d (sorted-as z d (start .pre .1 .2) (c .before .before .before .before .by-epoch .ensures)) (sorted-as z d (start .pre .1 .1) (c .before .before .before .by-epoch2 .ensures)) (sorted-as z d (start .pre .1 .0) (c .before .before .by-epoch3 .ensures)) (c .before .append .ensures) (c .append2 .ensures)
+returns c = let s = c .before .before .before .before .before .before .before .before .before .before .before .before .before .before in let z = s .args .z in let d = spareOnly (s .args .spare .now) in
+    let first = first-is s (c .before .before .before .before .before .before .old-column .ensures) (c .before .before .before .before .before .before .before .before .blank-column .result) (c .before .before .before .empty .ensures) (c .before .before .gather .ensures) in
+    c .gather3 .ensures ∙ rw (c .before .gather2 .ensures, first, copies-listed s, writes-listed s) (append-assoc (oldCopies z d) (droppedCopies z d) (droppedWrites z d)) ∙ gc-is z d
 
 pub retired-spec : {M : Type 1} → statement M
 retired-spec =
     tie.close
     (tie.spec
-    by-epoch-requires
-    by-epoch-requires-2
-    by-epoch-requires-3
-    append-requires
-    append-requires-2
+    blank-column-requires
+    array-borrow-prefix-old
+    slice-aggregate-old-column
+    old-column-requires
+    array-share-prefix-old
+    slice-aggregate-gather
+    empty-requires
+    gather-requires
+    gather-requires-2
+    gather-requires-3
     returns)

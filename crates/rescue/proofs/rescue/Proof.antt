@@ -1,19 +1,42 @@
-use Rattle.geometry.proofs.Passed.{products}
-use Rattle.model.specs.Sizes.{bucketSize}
+use Prim.Native.Nat.{_≤_}
+use mathlib.Core.Path.{refl}
 use native.Mathlib.Omega.{arith}
+use lib.ListN.{length, length-take}
 use borrow.Author.Needs.{needs}
+use Rattle.image.specs.Chip.{spareOnly}
+use Rattle.rescue.proofs.Standing.{order-length}
 use Rattle.rescue.proofs.rescue.Statement.{statement}
 use Rattle.rescue.proofs.rescue.Tie as tie
 
-mul-if1 : tie.Need-mul-if1
-mul-if1 c = omega (arith, products (c .before .before .before .before .pre .0 .limits))
+-- the order fits the column's array
+fits : (c : tie.Start) → length (c .args .order .now) ≤ 256
+fits c = order-length (c .args .z) (spareOnly (c .args .spare .now)) (c .pre .0 .limits) (c .pre .1 .order-is)
 
-rescue-small-requires : tie.Need-rescue-small-requires
-unfolding bucketSize
-rescue-small-requires c κs = let s = c .before .before .before .before .before .before .before .before in (s .pre .0, (s .pre .1, c .before .before .before .if1 .taken))
+unsaved-backs-requires : tie.Need-unsaved-backs-requires
+unsaved-backs-requires c κs = search needs
 
-rescue-large-requires : tie.Need-rescue-large-requires
-rescue-large-requires c κs = search needs
+array-share-prefix-unsaved : tie.Need-array-share-prefix-unsaved
+array-share-prefix-unsaved c = omega (arith, fits (c .before .before .before .before .before .before .before .before .before .before))
+
+slice-aggregate-rescue-each : tie.Need-slice-aggregate-rescue-each
+slice-aggregate-rescue-each c = simp length-take (omega (arith, fits (c .before .before .before .before .before .before .before .before .before .before .before)))
+
+rescue-each-requires : tie.Need-rescue-each-requires
+rescue-each-requires c κs =
+    let start = c .before .before .before .before .before .before .before .before .before .before .before .before .before .before in
+    let columns = start .pre .1 in (
+      start .pre .0,
+      (
+        record {
+          order-is = columns .order-is;
+          writes-are = columns .writes-are;
+          dropped-writes-are = columns .dropped-writes-are;
+          copies-are = columns .copies-are;
+          dropped-copies-are = refl;
+        },
+        c .before .before .before .before .unsaved-backs .ensures,
+      ),
+    )
 
 same-length : tie.Need-same-length
 same-length c = search needs
@@ -27,30 +50,15 @@ same-length-3 c = search needs
 returns : tie.Need-returns
 returns c = search needs
 
-same-length-4 : tie.Need-same-length-4
-same-length-4 c = search needs
-
-same-length-5 : tie.Need-same-length-5
-same-length-5 c = search needs
-
-same-length-6 : tie.Need-same-length-6
-same-length-6 c = search needs
-
-returns-2 : tie.Need-returns-2
-returns-2 c = search needs
-
 pub rescue-spec : {M : Type 1} → statement M
 rescue-spec =
     tie.close
     (tie.spec
-    mul-if1
-    rescue-small-requires
-    rescue-large-requires
+    unsaved-backs-requires
+    array-share-prefix-unsaved
+    slice-aggregate-rescue-each
+    rescue-each-requires
     same-length
     same-length-2
     same-length-3
-    returns
-    same-length-4
-    same-length-5
-    same-length-6
-    returns-2)
+    returns)

@@ -1,67 +1,52 @@
-use mathlib.Core.Path.{_≡_, refl, sym, _∙_}
-use Prim.Native.Nat.{_+_, _≤_, _-_}
+use Rattle.rules.proofs.Slots.{alone-distinct, not-alone}
+use Rattle.rules.specs.Slots.{Alone}
+use borrow.Author.Tests.{not-true, not-false}
+use lib.ListN.{length}
+use mathlib.Core.List.{List}
+use mathlib.Core.Path.{_≡_, sym}
+use Prim.Native.Nat.{ℕ, _+_, _-_, _≤_, _<_}
+use native.Mathlib.Decide.{ℕ-discrete}
 use native.Mathlib.Omega.{arith}
-use lib.ListN.{length, drop}
-use borrow.Author.Needs.{needs}
-use Rattle.lists.proofs.Members.{distinct-step, distinct-end, lent-rest}
-use Rattle.lists.specs.Lists.{distinct}
 use Rattle.rules.proofs.all_differ.Statement.{statement}
 use Rattle.rules.proofs.all_differ.Tie as tie
 
+-- one more number
+more : (items slots : List ℕ) (i j : ℕ) → (j < i → Alone items slots j) → Alone items slots i → Dec (j ≡ i) → j < i + 1 → Alone items slots j
+more items slots i j all last (yes e) h = rw e last
+more items slots i j all last (no n) h = all (omega arith)
+
 abbrev Inv-loop : tie.InvT-loop
-Inv-loop items i₀ i = (i ≤ length items) × (distinct items ≡ distinct (drop i items))
+Inv-loop items slots i₀ i = (i ≤ length items) × ((j : ℕ) → j < i → Alone items slots j)
 
 abbrev μ-loop : tie.MeasureT-loop
-μ-loop items i₀ i = length items - i
+μ-loop items slots i₀ i = length items - i
+
+fill-slots-requires : tie.Need-fill-slots-requires Inv-loop μ-loop
+fill-slots-requires c κs = c .before .before .pre
 
 loop-holds : tie.Need-loop-holds Inv-loop μ-loop
-loop-holds c = (omega arith, refl)
+loop-holds c = (omega arith, λ j h. absurd (omega arith))
 
-mul-x : tie.Need-mul-x Inv-loop μ-loop
-mul-x c = search needs
+stands-alone-requires : tie.Need-stands-alone-requires Inv-loop μ-loop
+stands-alone-requires c κs = (c .before .before .before .before .before .before .pre, c .before .loop-test .taken)
 
-shared-slice-read-x : tie.Need-shared-slice-read-x Inv-loop μ-loop
-shared-slice-read-x c = omega arith
+returns : tie.Need-returns Inv-loop μ-loop
+returns c = let l = c .before .before .before .before .loop in
+    sym (not-alone (c .before .before .before .before .before .before .before .before .args .items .now) (l .i) (omega arith) (c .before .stands-alone .ensures .1 (not-true _ (c .if1 .taken))))
 
 add-i : tie.Need-add-i Inv-loop μ-loop
 add-i c = omega arith
-
-mul-occurs : tie.Need-mul-occurs Inv-loop μ-loop
-mul-occurs c = search needs
-
-sub-occurs : tie.Need-sub-occurs Inv-loop μ-loop
-sub-occurs c = search needs
-
-part-occurs-start : tie.Need-part-occurs-start Inv-loop μ-loop
-part-occurs-start c = search needs
-
-part-occurs-end : tie.Need-part-occurs-end Inv-loop μ-loop
-part-occurs-end c = search needs
-
-occurs-requires : tie.Need-occurs-requires Inv-loop μ-loop
-occurs-requires c κs = search needs
-
-returns : tie.Need-returns Inv-loop μ-loop
-returns c =
-    let l = c .before .before .before .before .before .loop in
-    let items = c .before .before .before .before .before .before .before .args .items .now in
-    let found = sym (rw (lent-rest items (l .i + 1)) at (c .before .occurs .ensures)) ∙ c .if1 .taken in
-    sym (l .inv .1 ∙ distinct-step items (l .i) (omega arith) ∙ rw found)
 
 loop-less : tie.Need-loop-less Inv-loop μ-loop
 loop-less c = omega arith
 
 loop-again : tie.Need-loop-again Inv-loop μ-loop
-loop-again c =
-    let l = c .before .before .before .before .before .loop in
-    let items = c .before .before .before .before .before .before .before .args .items .now in
-    let missing = sym (rw (lent-rest items (l .i + 1)) at (c .before .occurs .ensures)) ∙ c .if1 .left in
-    (omega arith, l .inv .1 ∙ distinct-step items (l .i) (omega arith) ∙ rw missing)
+loop-again c = let l = c .before .before .before .before .loop in
+    (omega arith, λ j h. more (c .before .before .before .before .before .before .before .before .args .items .now) (c .before .before .before .before .before .fill-slots .last .1 .0) (l .i) j (l .inv .1 j) (c .before .stands-alone .ensures .0 (not-false _ (c .if1 .left))) (ℕ-discrete j (l .i)) h)
 
 returns-2 : tie.Need-returns-2 Inv-loop μ-loop
-returns-2 c =
-    let l = c .before .loop in
-    sym (l .inv .1 ∙ distinct-end (c .before .before .before .args .items .now) (l .i) (omega arith))
+returns-2 c = let l = c .before .loop in
+    sym (alone-distinct (c .before .before .before .before .before .args .items .now) (c .before .before .fill-slots .last .1 .0) (λ j h. l .inv .1 j (omega arith)))
 
 pub all-differ-spec : {M : Type 1} → statement M
 all-differ-spec =
@@ -69,16 +54,11 @@ all-differ-spec =
     (tie.spec
     Inv-loop
     μ-loop
+    fill-slots-requires
     loop-holds
-    mul-x
-    shared-slice-read-x
-    add-i
-    mul-occurs
-    sub-occurs
-    part-occurs-start
-    part-occurs-end
-    occurs-requires
+    stands-alone-requires
     returns
+    add-i
     loop-less
     loop-again
     returns-2)

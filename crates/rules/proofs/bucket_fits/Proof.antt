@@ -1,33 +1,35 @@
-use Rattle.rules.proofs.Tail.{bucket-split}
-use Rattle.rules.specs.Pages.{isErased, spareFrom}
-use Rattle.lists.specs.Lists.{all}
-use borrow.Author.Tests.{not-true, not-false}
-use mathlib.Core.Bool.{true, false}
-use mathlib.Core.Path.{_≡_, sym, _∙_}
+use Rattle.rules.proofs.Buckets.{bucket-split, bucket-inside}
+use mathlib.Core.Path.{sym, _∙_}
+use native.Mathlib.Omega.{arith}
 use borrow.Author.Needs.{needs}
 use Rattle.rules.proofs.bucket_fits.Statement.{statement}
 use Rattle.rules.proofs.bucket_fits.Tie as tie
 
-used-pages-requires : tie.Need-used-pages-requires
-used-pages-requires c κs = search needs
+fitting-requires : tie.Need-fitting-requires
+fitting-requires c κs = search needs
 
-erased-from-requires : tie.Need-erased-from-requires
-erased-from-requires c κs = let o = c .before .before in (o .pre .0, (o .pre .1, c .used-pages .ensures .within))
+mul-are-blank : tie.Need-mul-are-blank
+mul-are-blank c = let o = c .before .before .before in omega (arith, bucket-inside (o .pre .0) (o .args .c) (o .pre .1))
+
+add-are-blank : tie.Need-add-are-blank
+add-are-blank c = let o = c .before .before .before in omega (arith, bucket-inside (o .pre .0) (o .args .c) (o .pre .1), c .before .fitting .ensures .0 .0)
+
+sub-are-blank : tie.Need-sub-are-blank
+sub-are-blank c = search needs
+
+are-blank-requires : tie.Need-are-blank-requires
+are-blank-requires c κs = let o = c .before .before .before .before in omega (arith, bucket-inside (o .pre .0) (o .args .c) (o .pre .1), c .before .before .fitting .ensures .0 .0)
 
 returns : tie.Need-returns
-returns c = let o = c .before .before .before .before in let u = c .before .before .used-pages in
-    let e : all isErased (spareFrom (o .args .z) (o .args .spare .now) (o .args .c) (u .result)) ≡ false = sym (c .before .erased-from .ensures) ∙ not-true _ (c .if1 .taken) in
-    rw (bucket-split (o .pre .0) (o .args .c) (o .pre .1) (u .result) (u .ensures), e)
-
-pages-fit-requires : tie.Need-pages-fit-requires
-pages-fit-requires c κs = let o = c .before .before .before .before in (o .pre .0, (o .pre .1, c .before .before .used-pages .ensures .within))
-
-returns-2 : tie.Need-returns-2
-returns-2 c = let o = c .before .before .before .before .before in let u = c .before .before .before .used-pages in
-    let e : all isErased (spareFrom (o .args .z) (o .args .spare .now) (o .args .c) (u .result)) ≡ true = sym (c .before .before .erased-from .ensures) ∙ not-false _ (c .before .if1 .left) in
-    rw (bucket-split (o .pre .0) (o .args .c) (o .pre .1) (u .result) (u .ensures), e) (c .pages-fit .ensures)
+returns c = let a = c .before .before .before .before .before .args in let f = c .before .before .before .fitting in c .are-blank .ensures ∙ sym (bucket-split (a .z) (a .spare .now) (a .c) (f .result) (f .ensures))
 
 pub bucket-fits-spec : {M : Type 1} → statement M
 bucket-fits-spec =
     tie.close
-    (tie.spec used-pages-requires erased-from-requires returns pages-fit-requires returns-2)
+    (tie.spec
+    fitting-requires
+    mul-are-blank
+    add-are-blank
+    sub-are-blank
+    are-blank-requires
+    returns)

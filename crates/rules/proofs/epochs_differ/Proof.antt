@@ -9,7 +9,9 @@ use lib.ListN.{length-set, length, take}
 use borrow.Author.Needs.{needs}
 use Rattle.image.specs.Chip.{spareOnly}
 use Rattle.model.specs.Sizes.{body}
-use Rattle.model.specs.Image.{used, epochOf}
+use Rattle.model.specs.Image.{bucketFits, used, epochOf}
+use Rattle.model.proofs.Limits.{on-chip}
+use Rattle.lists.proofs.Rows.{all-below}
 use Rattle.lists.proofs.Turns.{keep-more, keep-same}
 use Rattle.lists.specs.Lists.{keep, row, below}
 use Rattle.rules.proofs.epochs_differ.Statement.{statement}
@@ -29,10 +31,12 @@ unfolding keep below row
 loop-holds c = (omega arith, omega arith, search needs, refl)
 
 used-requires : tie.Need-used-requires Inv-loop μ-loop
-used-requires c κs = search needs
+used-requires c κs = let o = c .before .before .before .before in let l = c .before .loop in
+    (o .pre .0, (on-chip (o .args .z) (l .c) (omega arith), all-below (body (o .args .z)) (bucketFits (o .args .z) (spareOnly (o .args .spare .now))) (o .pre .1) (l .c) (omega arith)))
 
-epoch-of-requires : tie.Need-epoch-of-requires Inv-loop μ-loop
-epoch-of-requires c κs = search needs
+used-epoch-requires : tie.Need-used-epoch-requires Inv-loop μ-loop
+used-epoch-requires c κs = let o = c .before .before .before .before .before .before in
+    (o .pre .0, (on-chip (o .args .z) (c .before .before .before .loop .c) (omega arith), sym (c .before .used .ensures) ∙ c .if1 .taken))
 
 mul-epochs : tie.Need-mul-epochs Inv-loop μ-loop
 mul-epochs c = search needs
@@ -79,7 +83,7 @@ slice-aggregate-all-differ : tie.Need-slice-aggregate-all-differ Inv-loop μ-loo
 slice-aggregate-all-differ c = sym (length-take-le (c .before .before .loop .n) (c .before .before .loop .epochs) (omega arith))
 
 all-differ-requires : tie.Need-all-differ-requires Inv-loop μ-loop
-all-differ-requires c κs = search needs
+all-differ-requires c κs = let l = c .before .before .loop in omega (arith, length-take-le (l .n) (l .epochs) (omega arith))
 
 returns : tie.Need-returns Inv-loop μ-loop
 returns c =
@@ -95,7 +99,7 @@ epochs-differ-spec =
     body-requires
     loop-holds
     used-requires
-    epoch-of-requires
+    used-epoch-requires
     mul-epochs
     array-write-epochs
     add-n

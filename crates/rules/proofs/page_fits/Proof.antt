@@ -1,28 +1,34 @@
+use Rattle.rules.proofs.Page.{no-kind}
+use Rattle.image.proofs.Place.{page-inside}
 use Rattle.image.specs.Chip.{spareOnly}
-use Rattle.spare.proofs.Looked.{seen-blank}
-use Rattle.rules.proofs.Page.{blank-page}
+use Rattle.model.specs.Stores.{tagOf}
+use Rattle.model.specs.Sizes.{pageIndex}
 use mathlib.Core.Path.{sym, _∙_}
+use native.Mathlib.Omega.{arith}
 use borrow.Author.Needs.{needs}
 use Rattle.rules.proofs.page_fits.Statement.{statement}
 use Rattle.rules.proofs.page_fits.Tie as tie
 
-enum-told : tie.Need-enum-told
-enum-told c = search needs
+mul-kind-at : tie.Need-mul-kind-at
+mul-kind-at c = let o = c .before .before in omega (arith, page-inside (o .pre .0) (o .pre .1 .0) (o .pre .1 .1 .0))
 
-enum-known-page : tie.Need-enum-known-page
-enum-known-page c = search needs
+add-kind-at : tie.Need-add-kind-at
+add-kind-at c = let o = c .before .before in omega (arith, page-inside (o .pre .0) (o .pre .1 .0) (o .pre .1 .1 .0))
 
-programmed-fits-requires : tie.Need-programmed-fits-requires
-programmed-fits-requires c κs = let p = c .before .before .before .before .pre in
-    (p .0, (p .1 .0, (p .1 .1 .0, (sym (p .1 .1 .1 .0) ∙ c .before .page .given .1, p .1 .1 .1 .1))))
+kind-at-requires : tie.Need-kind-at-requires
+kind-at-requires c κs = let o = c .before .before in page-inside (o .pre .0) (o .pre .1 .0) (o .pre .1 .1 .0)
 
 returns : tie.Need-returns
-returns c = let o = c .before .before .before in
-    sym (blank-page (o .args .z) (spareOnly (o .args .spare .now)) (o .args .c) (o .args .k) (seen-blank _ (sym (o .pre .1 .1 .1 .0) ∙ c .enum-told .given .1)))
+unfolding tagOf pageIndex
+returns c = let o = c .before .before .before .before in let a = o .args in sym (no-kind (a .z) (spareOnly (a .spare .now)) (a .c) (a .k) (sym (c .before .kind-at .ensures) ∙ c .if1 .taken))
+
+programmed-fits-requires : tie.Need-programmed-fits-requires
+programmed-fits-requires c κs = search needs
 
 returns-2 : tie.Need-returns-2
 returns-2 c = search needs
 
 pub page-fits-spec : {M : Type 1} → statement M
 page-fits-spec =
-    tie.close (tie.spec enum-told enum-known-page programmed-fits-requires returns returns-2)
+    tie.close
+    (tie.spec mul-kind-at add-kind-at kind-at-requires returns programmed-fits-requires returns-2)

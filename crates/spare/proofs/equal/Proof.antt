@@ -1,17 +1,18 @@
-use mathlib.Core.Path.{_≡_, refl, sym, _∙_}
-use Prim.Native.Nat.{_≤_, _-_}
+use mathlib.Core.Path.{_≡_, refl, sym, ap, _∙_}
+use mathlib.Core.Bool.{_&&_, and-assoc, and-true}
+use Prim.Native.Nat.{_+_, _≤_, _-_}
 use native.Mathlib.Omega.{arith}
 use lib.ListN.{length, drop}
-use Rattle.lists.proofs.Sames.{same-step, same-differ, same-end, same-lengths}
+use Rattle.lists.proofs.Sames.{same-more, same-end, same-lengths}
 use Rattle.lists.specs.Lists.{same}
 use Rattle.spare.proofs.equal.Statement.{statement}
 use Rattle.spare.proofs.equal.Tie as tie
 
 abbrev Inv-loop : tie.InvT-loop
-Inv-loop a b i₀ i = (i ≤ length a) × (length a ≡ length b) × (same a b ≡ same (drop i a) (drop i b))
+Inv-loop a b alike₀ i₀ alike i = (i ≤ length a) × (length a ≡ length b) × ((alike && same (drop i a) (drop i b)) ≡ same a b)
 
 abbrev μ-loop : tie.MeasureT-loop
-μ-loop a b i₀ i = length a - i
+μ-loop a b alike₀ i₀ alike i = length a - i
 
 returns : tie.Need-returns Inv-loop μ-loop
 returns c = sym (same-lengths _ _ (c .if1 .taken))
@@ -19,17 +20,11 @@ returns c = sym (same-lengths _ _ (c .if1 .taken))
 loop-holds : tie.Need-loop-holds Inv-loop μ-loop
 loop-holds c = (omega arith, omega arith, refl)
 
-shared-slice-read-if2 : tie.Need-shared-slice-read-if2 Inv-loop μ-loop
-shared-slice-read-if2 c = omega arith
+shared-slice-read-alike : tie.Need-shared-slice-read-alike Inv-loop μ-loop
+shared-slice-read-alike c = omega arith
 
-shared-slice-read-if2-2 : tie.Need-shared-slice-read-if2-2 Inv-loop μ-loop
-shared-slice-read-if2-2 c = omega arith
-
-returns-2 : tie.Need-returns-2 Inv-loop μ-loop
-returns-2 c =
-    let l = c .before .before .before .before in
-    let a = l .before .before .args in
-    sym (l .loop .inv .2 ∙ same-differ (a .a .now) (a .b .now) (l .loop .i) (omega arith) (omega arith) (c .if2 .taken))
+shared-slice-read-alike-2 : tie.Need-shared-slice-read-alike-2 Inv-loop μ-loop
+shared-slice-read-alike-2 c = omega arith
 
 add-i : tie.Need-add-i Inv-loop μ-loop
 add-i c = omega arith
@@ -39,15 +34,19 @@ loop-less c = omega arith
 
 loop-again : tie.Need-loop-again Inv-loop μ-loop
 loop-again c =
-    let l = c .before .before .before .before in
-    let a = l .before .before .args in
-    (omega arith, omega arith, l .loop .inv .2 ∙ same-step (a .a .now) (a .b .now) (l .loop .i) (omega arith) (omega arith) (c .if2 .left))
+    let l = c .before .before .before in
+    let a = l .before .before .args in (
+      omega arith,
+      omega arith,
+      and-assoc (l .loop .alike) _ (same (drop (l .loop .i + 1) (a .a .now)) (drop (l .loop .i + 1) (a .b .now)))
+          ∙ (ap (λ t. l .loop .alike && t) (sym (same-more (a .a .now) (a .b .now) (l .loop .i) (omega arith) (omega arith))) ∙ l .loop .inv .2),
+    )
 
-returns-3 : tie.Need-returns-3 Inv-loop μ-loop
-returns-3 c =
+returns-2 : tie.Need-returns-2 Inv-loop μ-loop
+returns-2 c =
     let l = c .before in
     let a = l .before .before .args in
-    sym (l .loop .inv .2 ∙ same-end (a .a .now) (a .b .now) (l .loop .i) (omega arith) (omega arith))
+    sym (and-true (l .loop .alike)) ∙ (ap (λ t. l .loop .alike && t) (sym (same-end (a .a .now) (a .b .now) (l .loop .i) (omega arith) (omega arith))) ∙ l .loop .inv .2)
 
 pub equal-spec : {M : Type 1} → statement M
 equal-spec =
@@ -57,10 +56,9 @@ equal-spec =
     μ-loop
     returns
     loop-holds
-    shared-slice-read-if2
-    shared-slice-read-if2-2
-    returns-2
+    shared-slice-read-alike
+    shared-slice-read-alike-2
     add-i
     loop-less
     loop-again
-    returns-3)
+    returns-2)

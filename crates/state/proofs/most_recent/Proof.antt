@@ -13,17 +13,14 @@ use Rattle.queue.specs.View.{entriesOf}
 use Rattle.state.proofs.most_recent.Statement.{statement}
 use Rattle.state.proofs.most_recent.Tie as tie
 
-holds-requires : tie.Need-holds-requires
-holds-requires c κs = search needs
+find-requires : tie.Need-find-requires
+find-requires c κs = search needs
 
 returns : tie.Need-returns
 unfolding cachesOf
-returns c = let x = c .before .before .args in
-    let e : holds (x .b) (entriesOf (x .queue)) ≡ false = sym (c .before .holds .ensures) ∙ not-true _ (c .if1 .taken) in
+returns c = let x = c .before .before .before .args in
+    let e : holds (x .b) (entriesOf (x .queue)) ≡ false = sym (c .before .before .find .ensures .0) ∙ not-true _ (c .if1 .taken) in
     rw (e, without-absent (x .b) (entriesOf (x .queue)) e, append-nil)
-
-cache-of-requires : tie.Need-cache-of-requires
-cache-of-requires c κs = search needs
 
 entry-requires : tie.Need-entry-requires
 entry-requires c κs = search needs
@@ -39,13 +36,13 @@ unfolding cachesOf
 returns-2 c = let x = c .before .before .before .before .before .before .args in
     let list = entriesOf (x .queue) in
     let copy = entry (x .b) (cacheOf (x .b) list) 0 ∷ [] in
-    let e : holds (x .b) list ≡ true = sym (c .before .before .before .before .before .holds .ensures) ∙ not-false _ (c .before .before .before .before .if1 .left) in
+    let e : holds (x .b) list ≡ true = sym (c .before .before .before .before .before .find .ensures .0) ∙ not-false _ (c .before .before .before .if1 .left) in
     let n : length (x .queue .items) ≡ 64 = search (needs, length-mapped) in
     let m : length list ≤ 64 = rw length-take (omega arith) in
     let h : length (without (x .b) list ++ copy) ≤ 64 = rw length-append (omega (arith, rw e at (without-length (x .b) list))) in
-    c .push .ensures ∙ rw (c .before .without .ensures, c .before .before .entry .ensures, c .before .before .before .cache-of .ensures, e) (joined-fits 64 (without (x .b) list) copy h)
+    c .push .ensures ∙ rw (c .before .without .ensures, c .before .before .entry .ensures, c .before .before .before .before .before .find .ensures .1, e) (joined-fits 64 (without (x .b) list) copy h)
 
 pub most-recent-spec : {M : Type 1} → statement M
 most-recent-spec =
     tie.close
-    (tie.spec holds-requires returns cache-of-requires entry-requires without-requires push-requires returns-2)
+    (tie.spec find-requires returns entry-requires without-requires push-requires returns-2)

@@ -12,19 +12,16 @@ use Rattle.queue.specs.View.{entriesOf}
 use Rattle.state.proofs.with_cache.Statement.{statement}
 use Rattle.state.proofs.with_cache.Tie as tie
 
-holds-requires : tie.Need-holds-requires
-holds-requires c κs = search needs
+find-requires : tie.Need-find-requires
+find-requires c κs = search needs
 
 returns : tie.Need-returns
 unfolding cachesOf
-returns c = let x = c .before .before .args in
-    let e : holds (x .b) (entriesOf (x .queue)) ≡ false = sym (c .before .holds .ensures) ∙ not-true _ (c .if1 .taken) in
+returns c = let x = c .before .before .before .args in
+    let e : holds (x .b) (entriesOf (x .queue)) ≡ false = sym (c .before .before .find .ensures .0) ∙ not-true _ (c .if1 .taken) in
     let n : length (x .gc .items) ≡ 256 = search needs in
     let h : length (listOf (x .gc)) ≤ 256 = rw length-take (omega arith) in
     rw e (sym (joined-none 256 (listOf (x .gc)) h))
-
-cache-of-requires : tie.Need-cache-of-requires
-cache-of-requires c κs = search needs
 
 push-requires : tie.Need-push-requires
 push-requires c κs = search needs
@@ -32,9 +29,9 @@ push-requires c κs = search needs
 returns-2 : tie.Need-returns-2
 unfolding cachesOf
 returns-2 c = let x = c .before .before .before .before .args in
-    let e : holds (x .b) (entriesOf (x .queue)) ≡ true = sym (c .before .before .before .holds .ensures) ∙ not-false _ (c .before .before .if1 .left) in
-    rw (c .push .ensures, c .before .cache-of .ensures, e)
+    let e : holds (x .b) (entriesOf (x .queue)) ≡ true = sym (c .before .before .before .find .ensures .0) ∙ not-false _ (c .before .if1 .left) in
+    rw (c .push .ensures, c .before .before .before .find .ensures .1, e)
 
 pub with-cache-spec : {M : Type 1} → statement M
 with-cache-spec =
-    tie.close (tie.spec holds-requires returns cache-of-requires push-requires returns-2)
+    tie.close (tie.spec find-requires returns push-requires returns-2)

@@ -1,0 +1,95 @@
+use Rattle.recover.proofs.Queues.{chip-of, lent-again, lent-fits, order-fits, column-length}
+use Rattle.image.specs.Chip.{spareOnly}
+use Rattle.model.specs.Recover.{isChosen, isDroppedCopy}
+use mathlib.Core.Path.{refl, sym, ap, _∙_}
+use native.Mathlib.Omega.{arith}
+use lib.Seq.{length-take-le}
+use lib.ListN.{length}
+use borrow.Author.Needs.{needs}
+use Rattle.recover.proofs.recover_copies.Statement.{statement}
+use Rattle.recover.proofs.recover_copies.Tie as tie
+
+blank-column-requires : tie.Need-blank-column-requires
+blank-column-requires c κs = search needs
+
+blank-column-requires-2 : tie.Need-blank-column-requires-2
+blank-column-requires-2 c κs = search needs
+
+array-borrow-prefix-copies : tie.Need-array-borrow-prefix-copies
+array-borrow-prefix-copies c = let s = c .before .before .before .before .before .before .before .before .before in omega (arith, c .before .before .blank-column .ensures, order-fits (s .args .z) (spareOnly (s .args .spare .now)) (s .pre .0 .limits) (s .pre .1 .0))
+
+slice-aggregate-copy-columns : tie.Need-slice-aggregate-copy-columns
+slice-aggregate-copy-columns c = let s = c .before .before .before .before .before .before .before .before .before .before in sym (length-take-le (length (s .args .order .now)) (c .before .before .before .blank-column .result) (omega (arith, c .before .before .before .blank-column .ensures, order-fits (s .args .z) (spareOnly (s .args .spare .now)) (s .pre .0 .limits) (s .pre .1 .0))))
+
+array-borrow-prefix-dropped : tie.Need-array-borrow-prefix-dropped
+array-borrow-prefix-dropped c = let s = c .before .before .before .before .before .before .before .before .before .before in omega (arith, c .before .before .blank-column2 .ensures, order-fits (s .args .z) (spareOnly (s .args .spare .now)) (s .pre .0 .limits) (s .pre .1 .0))
+
+slice-aggregate-copy-columns-2 : tie.Need-slice-aggregate-copy-columns-2
+slice-aggregate-copy-columns-2 c = let s = c .before .before .before .before .before .before .before .before .before .before .before in sym (length-take-le (length (s .args .order .now)) (c .before .before .before .blank-column2 .result) (omega (arith, c .before .before .before .blank-column2 .ensures, order-fits (s .args .z) (spareOnly (s .args .spare .now)) (s .pre .0 .limits) (s .pre .1 .0))))
+
+copy-columns-requires : tie.Need-copy-columns-requires
+copy-columns-requires c κs = let s = c .before .before .before .before .before .before .before .before .before .before .before in
+    let size = order-fits (s .args .z) (spareOnly (s .args .spare .now)) (s .pre .0 .limits) (s .pre .1 .0) in
+    (chip-of (s .pre .0), (s .pre .0 .well-formed, (s .pre .1 .0, (s .pre .1 .1 .1, (length-take-le (length (s .args .order .now)) (c .before .before .before .before .blank-column .result) (omega (arith, c .before .before .before .before .blank-column .ensures, size)), length-take-le (length (s .args .order .now)) (c .before .before .before .blank-column2 .result) (omega (arith, c .before .before .before .blank-column2 .ensures, size)))))))
+
+array-share-prefix-copies : tie.Need-array-share-prefix-copies
+array-share-prefix-copies c = let s = c .before .before .before .before .before .before .before .before .before .before .before .before .before .before in let z = s .args .z in let d = spareOnly (s .args .spare .now) in
+    lent-fits (length (s .args .order .now)) (c .before .before .before .before .before .before .before .blank-column .result) (c .before .before .copy-columns .ensures .0) (column-length z d (isChosen z d) (s .pre .1 .0) refl)
+
+slice-aggregate-recover-by : tie.Need-slice-aggregate-recover-by
+slice-aggregate-recover-by c = let s = c .before .before .before .before .before .before .before .before .before .before .before .before .before .before .before in let z = s .args .z in let d = spareOnly (s .args .spare .now) in
+    sym (ap length (lent-again (length (s .args .order .now)) (c .before .before .before .before .before .before .before .before .blank-column .result) (c .before .before .before .copy-columns .ensures .0) (column-length z d (isChosen z d) (s .pre .1 .0) refl)) ∙ column-length z d (isChosen z d) (s .pre .1 .0) refl)
+
+array-share-prefix-dropped : tie.Need-array-share-prefix-dropped
+array-share-prefix-dropped c = let s = c .before .before .before .before .before .before .before .before .before .before .before .before .before .before .before in let z = s .args .z in let d = spareOnly (s .args .spare .now) in
+    lent-fits (length (s .args .order .now)) (c .before .before .before .before .before .before .before .blank-column2 .result) (c .before .before .before .copy-columns .ensures .1) (column-length z d (isDroppedCopy z d) (s .pre .1 .0) refl)
+
+slice-aggregate-recover-by-2 : tie.Need-slice-aggregate-recover-by-2
+slice-aggregate-recover-by-2 c = let s = c .before .before .before .before .before .before .before .before .before .before .before .before .before .before .before .before in let z = s .args .z in let d = spareOnly (s .args .spare .now) in
+    sym (ap length (lent-again (length (s .args .order .now)) (c .before .before .before .before .before .before .before .before .blank-column2 .result) (c .before .before .before .before .copy-columns .ensures .1) (column-length z d (isDroppedCopy z d) (s .pre .1 .0) refl)) ∙ column-length z d (isDroppedCopy z d) (s .pre .1 .0) refl)
+
+recover-by-requires : tie.Need-recover-by-requires
+recover-by-requires c κs = let s = c .before .before .before .before .before .before .before .before .before .before .before .before .before .before .before .before .before .before .before in let z = s .args .z in let d = spareOnly (s .args .spare .now) in
+    let n = length (s .args .order .now) in (
+      s .pre .0,
+      record {
+        order-is = s .pre .1 .0;
+        writes-are = s .pre .1 .1 .0;
+        dropped-writes-are = s .pre .1 .1 .1;
+        copies-are = lent-again n (c .before .before .before .before .before .before .before .before .before .before .before .before .blank-column .result) (c .before .before .before .before .before .before .before .copy-columns .ensures .0) (column-length z d (isChosen z d) (s .pre .1 .0) refl);
+        dropped-copies-are = lent-again n (c .before .before .before .before .before .before .before .before .before .before .before .blank-column2 .result) (c .before .before .before .before .before .before .before .copy-columns .ensures .1) (column-length z d (isDroppedCopy z d) (s .pre .1 .0) refl);
+      },
+    )
+
+same-length : tie.Need-same-length
+same-length c = search needs
+
+same-length-2 : tie.Need-same-length-2
+same-length-2 c = search needs
+
+same-length-3 : tie.Need-same-length-3
+same-length-3 c = search needs
+
+returns : tie.Need-returns
+returns c = search needs
+
+pub recover-copies-spec : {M : Type 1} → statement M
+recover-copies-spec =
+    tie.close
+    (tie.spec
+    blank-column-requires
+    blank-column-requires-2
+    array-borrow-prefix-copies
+    slice-aggregate-copy-columns
+    array-borrow-prefix-dropped
+    slice-aggregate-copy-columns-2
+    copy-columns-requires
+    array-share-prefix-copies
+    slice-aggregate-recover-by
+    array-share-prefix-dropped
+    slice-aggregate-recover-by-2
+    recover-by-requires
+    same-length
+    same-length-2
+    same-length-3
+    returns)

@@ -1,0 +1,96 @@
+use Rattle.recover.proofs.Queues.{chip-of, lent-again, lent-fits, order-fits, column-length}
+use Rattle.image.specs.Chip.{spareOnly}
+use Rattle.model.specs.Recover.{isDroppedWrite}
+use Rattle.model.specs.Image.{isWrite}
+use mathlib.Core.Path.{refl, sym, ap, _∙_}
+use native.Mathlib.Omega.{arith}
+use lib.Seq.{length-take-le}
+use lib.ListN.{length}
+use borrow.Author.Needs.{needs}
+use Rattle.recover.proofs.recover_writes.Statement.{statement}
+use Rattle.recover.proofs.recover_writes.Tie as tie
+
+blank-column-requires : tie.Need-blank-column-requires
+blank-column-requires c κs = search needs
+
+blank-column-requires-2 : tie.Need-blank-column-requires-2
+blank-column-requires-2 c κs = search needs
+
+array-borrow-prefix-writes : tie.Need-array-borrow-prefix-writes
+array-borrow-prefix-writes c = let s = c .before .before .before .before .before .before .before in omega (arith, c .before .before .blank-column .ensures, order-fits (s .args .z) (spareOnly (s .args .spare .now)) (s .pre .0 .limits) (s .pre .1))
+
+slice-aggregate-write-columns : tie.Need-slice-aggregate-write-columns
+slice-aggregate-write-columns c = let s = c .before .before .before .before .before .before .before .before in sym (length-take-le (length (s .args .order .now)) (c .before .before .before .blank-column .result) (omega (arith, c .before .before .before .blank-column .ensures, order-fits (s .args .z) (spareOnly (s .args .spare .now)) (s .pre .0 .limits) (s .pre .1))))
+
+array-borrow-prefix-dropped : tie.Need-array-borrow-prefix-dropped
+array-borrow-prefix-dropped c = let s = c .before .before .before .before .before .before .before .before in omega (arith, c .before .before .blank-column2 .ensures, order-fits (s .args .z) (spareOnly (s .args .spare .now)) (s .pre .0 .limits) (s .pre .1))
+
+slice-aggregate-write-columns-2 : tie.Need-slice-aggregate-write-columns-2
+slice-aggregate-write-columns-2 c = let s = c .before .before .before .before .before .before .before .before .before in sym (length-take-le (length (s .args .order .now)) (c .before .before .before .blank-column2 .result) (omega (arith, c .before .before .before .blank-column2 .ensures, order-fits (s .args .z) (spareOnly (s .args .spare .now)) (s .pre .0 .limits) (s .pre .1))))
+
+write-columns-requires : tie.Need-write-columns-requires
+write-columns-requires c κs = let s = c .before .before .before .before .before .before .before .before .before in
+    let size = order-fits (s .args .z) (spareOnly (s .args .spare .now)) (s .pre .0 .limits) (s .pre .1) in
+    (chip-of (s .pre .0), (s .pre .0 .well-formed, (s .pre .1, (length-take-le (length (s .args .order .now)) (c .before .before .before .before .blank-column .result) (omega (arith, c .before .before .before .before .blank-column .ensures, size)), length-take-le (length (s .args .order .now)) (c .before .before .before .blank-column2 .result) (omega (arith, c .before .before .before .blank-column2 .ensures, size))))))
+
+array-share-prefix-writes : tie.Need-array-share-prefix-writes
+array-share-prefix-writes c = let s = c .before .before .before .before .before .before .before .before .before .before .before .before in let z = s .args .z in let d = spareOnly (s .args .spare .now) in
+    lent-fits (length (s .args .order .now)) (c .before .before .before .before .before .before .before .blank-column .result) (c .before .before .write-columns .ensures .0) (column-length z d (isWrite z d) (s .pre .1) refl)
+
+slice-aggregate-recover-copies : tie.Need-slice-aggregate-recover-copies
+slice-aggregate-recover-copies c = let s = c .before .before .before .before .before .before .before .before .before .before .before .before .before in let z = s .args .z in let d = spareOnly (s .args .spare .now) in
+    sym (ap length (lent-again (length (s .args .order .now)) (c .before .before .before .before .before .before .before .before .blank-column .result) (c .before .before .before .write-columns .ensures .0) (column-length z d (isWrite z d) (s .pre .1) refl)) ∙ column-length z d (isWrite z d) (s .pre .1) refl)
+
+array-share-prefix-dropped : tie.Need-array-share-prefix-dropped
+array-share-prefix-dropped c = let s = c .before .before .before .before .before .before .before .before .before .before .before .before .before in let z = s .args .z in let d = spareOnly (s .args .spare .now) in
+    lent-fits (length (s .args .order .now)) (c .before .before .before .before .before .before .before .blank-column2 .result) (c .before .before .before .write-columns .ensures .1) (column-length z d (isDroppedWrite z d) (s .pre .1) refl)
+
+slice-aggregate-recover-copies-2 : tie.Need-slice-aggregate-recover-copies-2
+slice-aggregate-recover-copies-2 c = let s = c .before .before .before .before .before .before .before .before .before .before .before .before .before .before in let z = s .args .z in let d = spareOnly (s .args .spare .now) in
+    sym (ap length (lent-again (length (s .args .order .now)) (c .before .before .before .before .before .before .before .before .blank-column2 .result) (c .before .before .before .before .write-columns .ensures .1) (column-length z d (isDroppedWrite z d) (s .pre .1) refl)) ∙ column-length z d (isDroppedWrite z d) (s .pre .1) refl)
+
+recover-copies-requires : tie.Need-recover-copies-requires
+recover-copies-requires c κs = let s = c .before .before .before .before .before .before .before .before .before .before .before .before .before .before .before .before .before in let z = s .args .z in let d = spareOnly (s .args .spare .now) in
+    let n = length (s .args .order .now) in (
+      s .pre .0,
+      (
+        s .pre .1,
+        (
+          lent-again n (c .before .before .before .before .before .before .before .before .before .before .before .before .blank-column .result) (c .before .before .before .before .before .before .before .write-columns .ensures .0) (column-length z d (isWrite z d) (s .pre .1) refl),
+          lent-again n (c .before .before .before .before .before .before .before .before .before .before .before .blank-column2 .result) (c .before .before .before .before .before .before .before .write-columns .ensures .1) (column-length z d (isDroppedWrite z d) (s .pre .1) refl),
+        ),
+      ),
+    )
+
+same-length : tie.Need-same-length
+same-length c = search needs
+
+same-length-2 : tie.Need-same-length-2
+same-length-2 c = search needs
+
+same-length-3 : tie.Need-same-length-3
+same-length-3 c = search needs
+
+returns : tie.Need-returns
+returns c = search needs
+
+pub recover-writes-spec : {M : Type 1} → statement M
+recover-writes-spec =
+    tie.close
+    (tie.spec
+    blank-column-requires
+    blank-column-requires-2
+    array-borrow-prefix-writes
+    slice-aggregate-write-columns
+    array-borrow-prefix-dropped
+    slice-aggregate-write-columns-2
+    write-columns-requires
+    array-share-prefix-writes
+    slice-aggregate-recover-copies
+    array-share-prefix-dropped
+    slice-aggregate-recover-copies-2
+    recover-copies-requires
+    same-length
+    same-length-2
+    same-length-3
+    returns)

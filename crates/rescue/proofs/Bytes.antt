@@ -1,0 +1,161 @@
+-- The rescued bytes: what lies under the logs, and that the spare area alone says which they are.
+use Prim.Native.Nat.{ℕ, _+_, _-_, _*_, _≤_, _<_}
+use mathlib.Core.Path.{_≡_, refl, sym, ap, _∙_}
+use mathlib.Core.Bool.{Bool, true, false}
+use mathlib.Core.List.{List, [], _∷_, List·Memᴰ}
+use native.Mathlib.Nat.{add-zero}
+use native.Mathlib.Omega.{arith}
+use lib.ListN.{length}
+use borrow.Rule.Slice.PartMut.{midOf}
+use Rattle.lists.specs.Lists.{if_then_else_, head, empty, member, part}
+use Rattle.lists.proofs.Tests.{or-right}
+use Rattle.lists.proofs.Counts.{mem-times}
+use Rattle.lists.proofs.Lent.{lent-part, lent-length}
+use Rattle.lists.proofs.Windows.{part-part}
+use Rattle.lists.proofs.Orders.{times-sort}
+use Rattle.model.specs.declared.Sizes.{Sizes}
+use Rattle.model.specs.Sizes.{Device, bucketSize, diskSize, body}
+use Rattle.model.specs.Stores.{tagOf, bucketBytes, diskBytes}
+use Rattle.model.specs.Image.{headTag, used, epochOf, backOf, isWrite, isCopy, isDirty, complete}
+use Rattle.model.specs.Recover.{buckets, byEpoch, isNewer, amongNewest, newest, isWriteOf, isCopyOf, givesWay, isChosen, isChosenOf, chosen, isNoOther, isOnly, mergeAll, recovered, keptWrites, isDroppedWrite, flushed, isRemaining, keptCopies, isDroppedCopy, isUnsavedOf, unsaved, isRescued, rescued, rescueStores}
+use Rattle.model.proofs.Limits.{on-chip}
+use Rattle.model.proofs.Frames.{Lengths, length-bucket, length-disk}
+use Rattle.model.proofs.Formed.{Formed, formed-of}
+use Rattle.model.proofs.MergeBytes.{length-mergeAll}
+use Rattle.model.proofs.RecoverChoice.{in-buckets, dropped-copy, unsaved-by, chosen-in, head-chosen}
+use Rattle.geometry.specs.Geometry.{device}
+use Rattle.geometry.proofs.Passed.{lengths-of}
+use Rattle.image.specs.Chip.{spareOnly}
+use Rattle.rules.proofs.SameSpare.{same-well-formed}
+use Rattle.merge.specs.Window.{Readable, chip}
+use Rattle.merge.proofs.SameChip.{same-merge}
+use Rattle.classes.specs.Columns.{nowhere, inOrder, column}
+use Rattle.rescue.specs.Sources.{Recoverable}
+use Rattle.rescue.specs.Beside.{beside}
+use Rattle.rescue.proofs.Standing.{head-in, logs-beside, copy-beside}
+
+-- ---- what the spare area alone says
+
+module _ (z : Sizes) (d : Device) where
+  same-chosen : (b : ℕ) → chosen z (spareOnly (d .spare)) b ≡ chosen z d b
+  unfolding chosen buckets isChosenOf isChosen givesWay isCopyOf isNewer complete isCopy used epochOf backOf headTag tagOf
+  same-chosen b = refl
+
+  same-flushed : (b : ℕ) → flushed z (spareOnly (d .spare)) b ≡ flushed z d b
+  unfolding flushed buckets isDroppedWrite keptWrites newest amongNewest isNewer isOnly isNoOther isWriteOf isWrite used epochOf backOf headTag tagOf
+  same-flushed b = refl
+
+  same-logs : (b : ℕ) → byEpoch z (spareOnly (d .spare)) (buckets z (spareOnly (d .spare)) (isWriteOf z (spareOnly (d .spare)) b)) ≡ byEpoch z d (buckets z d (isWriteOf z d b))
+  unfolding byEpoch buckets isWriteOf isWrite used epochOf backOf headTag tagOf
+  same-logs b = refl
+
+  pub same-rescued : (b : ℕ) → isRescued z (spareOnly (d .spare)) b ≡ isRescued z d b
+  unfolding isRescued unsaved isUnsavedOf isDroppedCopy keptCopies isRemaining isDirty flushed buckets isDroppedWrite keptWrites newest amongNewest isNewer isOnly isNoOther isWriteOf isWrite isChosen givesWay isCopyOf complete isCopy used epochOf backOf headTag tagOf
+  same-rescued b = refl
+
+  same-merge-all : (l : List ℕ) (base : List ℕ) → mergeAll z (chip (d .flash) (d .spare)) l base ≡ mergeAll z d l base
+  unfolding mergeAll
+  same-merge-all [] base = refl
+  same-merge-all (w ∷ l) base = rw (same-merge z d w base) (same-merge-all l _)
+
+-- ---- the bytes
+
+-- what lies under the logs of b: its copy, or the disk's bytes
+abbrev pub baseBytes : Sizes → Device → ℕ → List ℕ
+baseBytes z d b = if empty (chosen z d b) then diskBytes z d b else bucketBytes z d (head (chosen z d b))
+
+module _ {z : Sizes} {flash spare : List ℕ} (readable : Readable z flash spare) (disk : List ℕ) (disk-length : length disk ≡ diskSize z) (b : ℕ) (back : b < z .b) where
+  abbrev d : Device
+  d = device flash spare disk
+
+  abbrev o : Device
+  o = spareOnly spare
+
+  low : b < nowhere
+  low = omega (arith, readable .limits .b-high)
+
+  formed : Formed z o
+  formed = formed-of z o (readable .well-formed)
+
+  lengths : Lengths z d
+  lengths = lengths-of (record { flash-length = readable .flash-length; spare-length = readable .spare-length; disk-length = disk-length })
+
+  pub base-size : length (baseBytes z d b) ≡ bucketSize z
+  base-size = go (empty (chosen z d b)) refl
+    where
+      go : (t : Bool) → empty (chosen z d b) ≡ t → length (if t then diskBytes z d b else bucketBytes z d (head (chosen z d b))) ≡ bucketSize z
+      go true e = length-disk z d lengths b back
+      go false e = length-bucket z d lengths (head (chosen z d b)) (on-chip z _ (chosen-in z d b (head (chosen z d b)) (head-in (chosen z d b) e) .1))
+
+  -- a window that shows the disk's bytes comes to show them
+  pub base-shown : {order copies : List ℕ} → order ≡ inOrder z o → copies ≡ column z o (isChosen z o) → (n : ℕ) (before after : List ℕ)
+      → after ≡ (if member b copies then part (part flash (head (beside b copies order) * bucketSize z) (bucketSize z)) 0 n else before)
+      → before ≡ part (diskBytes z d b) 0 n → after ≡ part (baseBytes z d b) 0 n
+  unfolding bucketBytes
+  base-shown order-is copies-are n before after laid shows =
+      laid ∙ rw (order-is, copies-are) (copy-beside z o b low formed (λ c. part (bucketBytes z d c) 0 n) before
+      ∙ rw (same-chosen z d b, shows) (go (empty (chosen z d b))))
+    where
+      go : (t : Bool) → (if t then part (diskBytes z d b) 0 n else part (bucketBytes z d (head (chosen z d b))) 0 n) ≡ part (if t then diskBytes z d b else bucketBytes z d (head (chosen z d b))) 0 n
+      go true = refl
+      go false = refl
+
+  rescued-merged : flushed z o b ≡ true → mergeAll z (chip flash spare) (byEpoch z o (buckets z o (isWriteOf z o b))) (baseBytes z d b) ≡ rescued z d b
+  unfolding rescued recovered
+  rescued-merged h = rw (same-logs z d b, sym (same-flushed z d b) ∙ h) (same-merge-all z d _ _)
+
+  pub rescued-laid : {order writes : List ℕ} → order ≡ inOrder z o → writes ≡ column z o (isWrite z o) → flushed z o b ≡ true
+      → mergeAll z (chip flash spare) (beside b writes order) (baseBytes z d b) ≡ rescued z d b
+  rescued-laid order-is writes-are h = rw (order-is, writes-are, logs-beside z o b low) (rescued-merged h)
+
+  -- without logs, b has lost its copy
+  pub rescued-own : flushed z o b ≡ false → isRescued z o b ≡ true → baseBytes z d b ≡ rescued z d b
+  unfolding rescued isRescued
+  rescued-own h lost =
+      let w = unsaved-by z o b (or-right (flushed z o b) (unsaved z o b) lost h) in
+      let some = head-chosen z o formed b (w .0) (w .1) (dropped-copy z o (w .0) (w .2) .0) (w .4) .0 in
+      rw (sym (ap empty (same-chosen z d b)) ∙ some, sym (same-flushed z d b) ∙ h)
+
+  pub rescued-size : isRescued z o b ≡ true → length (rescued z d b) ≡ bucketSize z
+  unfolding byEpoch
+  rescued-size lost = go (flushed z o b) refl
+    where
+      logs : List ℕ
+      logs = byEpoch z o (buckets z o (isWriteOf z o b))
+
+      below : (w : ℕ) → List·Memᴰ w logs → w < body z
+      below w m = in-buckets z o (isWriteOf z o b) w (omega (arith, mem-times w logs m, times-sort (epochOf z o) w (buckets z o (isWriteOf z o b)))) .1
+
+      go : (t : Bool) → flushed z o b ≡ t → length (rescued z d b) ≡ bucketSize z
+      go true h = ap length (sym (rescued-merged h) ∙ same-merge-all z d logs (baseBytes z d b))
+          ∙ length-mergeAll z d (omega (arith, readable .limits .s-low)) lengths (formed-of z d (sym (same-well-formed z d) ∙ readable .well-formed)) logs below (baseBytes z d b) base-size
+      go false h = ap length (sym (rescued-own h lost)) ∙ base-size
+
+-- a part of the disk that is lent for the first n of b's bytes shows them
+pub lent-shows : (l : List ℕ) (i m n : ℕ) → n ≤ m → i + m ≤ length l → midOf i ((i + n) - i) l ≡ part (part l i m) 0 (length (midOf i ((i + n) - i) l))
+lent-shows l i m n h f =
+    rw (lent-length l i n (omega arith), lent-part l i n) (sym (part-part l i m 0 n (omega arith) f ∙ ap (λ (k : ℕ). part l k n) (add-zero i)))
+
+-- the stores depend on the disk's bytes of b, and on no other
+pub stores-same : (z : Sizes) (flash spare before after : List ℕ) (b : ℕ) → diskBytes z (device flash spare after) b ≡ diskBytes z (device flash spare before) b
+    → rescueStores z (device flash spare after) b ≡ rescueStores z (device flash spare before) b
+unfolding rescueStores rescued recovered bucketBytes
+stores-same z flash spare before after b same =
+    let d = device flash spare before in
+    let e = device flash spare after in
+    let logs = byEpoch z d (buckets z d (isWriteOf z d b)) in
+    rw (
+      sym (same-flushed z e b) ∙ same-flushed z d b,
+      sym (same-chosen z e b) ∙ same-chosen z d b,
+      sym (same-logs z e b) ∙ same-logs z d b,
+      same,
+      sym (same-merge-all z e logs (baseBytes z d b)) ∙ same-merge-all z d logs (baseBytes z d b),
+    )
+
+pub readable-of : {z : Sizes} {flash spare disk : List ℕ} → Recoverable z flash spare disk → Readable z flash spare
+readable-of sound = record {
+  limits = sound .limits;
+  flash-length = sound .lent .flash-length;
+  spare-length = sound .lent .spare-length;
+  well-formed = sound .well-formed;
+}

@@ -1,0 +1,158 @@
+-- What it says of a back-end bucket that it stands in a column, and which buckets it stands beside.
+use Prim.Native.Nat.{ℕ, zero, suc, _≤_, _<_}
+use mathlib.Core.Path.{_≡_, refl, sym, ap, _∙_}
+use mathlib.Core.Bool.{Bool, true, false, _&&_, _||_, or-assoc, true≢false}
+use mathlib.Core.List.{List, [], _∷_, _++_, map}
+use native.Mathlib.Omega.{arith}
+use lib.Dec.{eqb}
+use lib.ListN.{length, getD, length-map}
+use borrow.Author.Tests.{lt-ltb, eq-eqb, eqb-true}
+use Rattle.lists.specs.Lists.{if_then_else_, all, any, keep, below, head, empty, member, times}
+use Rattle.lists.proofs.Tests.{and-left, and-right, and-true, same-truth}
+use Rattle.lists.proofs.Rows.{length-row}
+use Rattle.lists.proofs.Counts.{in-all, times-rest, times-self, empty-times}
+use Rattle.lists.proofs.Orders.{any-in, in-any, kept-in, in-kept, length-sort}
+use Rattle.lists.proofs.Arrays.{keep-length}
+use Rattle.model.specs.declared.Sizes.{Sizes}
+use Rattle.model.specs.Sizes.{Device, body}
+use Rattle.model.specs.Image.{used, epochOf, backOf, isWrite, isDirty}
+use Rattle.model.specs.State.{isBelow}
+use Rattle.model.specs.Recover.{buckets, byEpoch, isWriteOf, isChosen, chosen, isDroppedWrite, flushed, isDroppedCopy, unsaved, isRescued}
+use Rattle.model.proofs.Limits.{Limits}
+use Rattle.model.proofs.Formed.{Formed}
+use Rattle.model.proofs.BucketKinds.{complete-copy, copy-used, write-used}
+use Rattle.model.proofs.RecoverChoice.{chosen-of, chosen-test, dropped-write, flushed-by, drop-flushes, dropped-copy, unsaved-by, drop-saves, chosen-in, head-chosen}
+use Rattle.classes.specs.Columns.{nowhere, inOrder, named, column}
+use Rattle.classes.proofs.Orders.{filtered, in-order, from-order}
+use Rattle.classes.proofs.Columns.{isOf, named-is, member-column}
+use Rattle.rescue.specs.Beside.{beside, isUnsaved}
+
+pub head-in : (l : List ℕ) → empty l ≡ false → 1 ≤ times (head l) l
+head-in l h = omega (arith, times-rest (head l) l h, times-self (head l))
+
+some-in : (x : ℕ) (l : List ℕ) → 1 ≤ times x l → empty l ≡ false
+some-in x l h = go (empty l) refl
+  where
+    go : (t : Bool) → empty l ≡ t → empty l ≡ false
+    go true e = absurd (omega (arith, empty-times l e x))
+    go false e = e
+
+member-both : (x : ℕ) (l m : List ℕ) → member x (l ++ m) ≡ member x l || member x m
+unfolding member any
+member-both x [] m = refl
+member-both x (y ∷ l) m = rw (member-both x l m) (sym (or-assoc (eqb x y) (member x l) (member x m)))
+
+getD-mapped : (f : ℕ → ℕ) (l : List ℕ) (i : ℕ) → i < length l → getD (map f l) i 0 ≡ f (getD l i 0)
+getD-mapped f [] i h = absurd (omega arith)
+getD-mapped f (x ∷ l) zero h = refl
+getD-mapped f (x ∷ l) (suc i) h = getD-mapped f l i (omega arith)
+
+module _ (z : Sizes) (d : Device) where
+  pub order-within : {order : List ℕ} → order ≡ inOrder z d → all (isBelow (body z)) order ≡ true
+  unfolding isBelow
+  order-within e = rw e (in-all (isBelow (body z)) (inOrder z d) (λ c h. lt-ltb c (body z) (in-order z d c h .1)))
+
+  pub order-length : Limits z → {order : List ℕ} → order ≡ inOrder z d → length order ≤ 256
+  unfolding byEpoch buckets below
+  order-length limits e =
+      omega (arith, ap length e, length-sort (epochOf z d) (buckets z d (used z d)), keep-length (used z d) (below (body z)), length-row (body z) (λ k. k), limits .body-high, limits .c-high)
+
+  pub column-length : (t : ℕ → Bool) {order numbers : List ℕ} → order ≡ inOrder z d → numbers ≡ column z d t → length numbers ≡ length order
+  column-length t e h = ap length h ∙ length-map (inOrder z d) (named z d t) ∙ sym (ap length e)
+
+  -- a place in the column of the dropped copies, if the copy is Dirty
+  pub unsaved-at : {order numbers : List ℕ} → order ≡ inOrder z d → numbers ≡ column z d (isDroppedCopy z d) → (i : ℕ) → i < length order
+      → (if isDirty z d (getD order i 0) then getD numbers i 0 else nowhere) ≡ named z d (isUnsaved z d) (getD order i 0)
+  unsaved-at {order} e h i k = rw (h, ← e, getD-mapped (named z d (isDroppedCopy z d)) order i k) (go (getD order i 0) (isDirty z d (getD order i 0)) (isDroppedCopy z d (getD order i 0)))
+    where
+      go : (c : ℕ) (t u : Bool) → (if t then (if u then backOf z d c else nowhere) else nowhere) ≡ (if u && t then backOf z d c else nowhere)
+      go c true true = refl
+      go c true false = refl
+      go c false true = refl
+      go c false false = refl
+
+  -- ---- b stands in a column
+
+  module _ (t : ℕ → Bool) (b : ℕ) (low : b < nowhere) where
+    -- a bucket of b that passes the test
+    standing : member b (column z d t) ≡ true → (c : ℕ) × (1 ≤ times c (inOrder z d)) × (t c ≡ true) × (backOf z d c ≡ b)
+    standing h =
+        let w = any-in (isOf z d t b) (inOrder z d) (sym (member-column z d t b (inOrder z d) low) ∙ h) in
+        (w .0, w .1, and-left (t (w .0)) (eqb (backOf z d (w .0)) b) (w .2), eqb-true (backOf z d (w .0)) b (and-right (t (w .0)) (eqb (backOf z d (w .0)) b) (w .2)))
+
+    stands : (c : ℕ) → c < body z → used z d c ≡ true → t c ≡ true → backOf z d c ≡ b → member b (column z d t) ≡ true
+    stands c inside u q e =
+        member-column z d t b (inOrder z d) low ∙ in-any (isOf z d t b) (inOrder z d) c (omega (arith, from-order z d c inside u)) (and-true q (eq-eqb (backOf z d c) b e))
+
+  module _ (b : ℕ) (low : b < nowhere) where
+    pub flushed-stands : member b (column z d (isDroppedWrite z d)) ≡ flushed z d b
+    flushed-stands = same-truth _ _ from to
+      where
+        from : member b (column z d (isDroppedWrite z d)) ≡ true → flushed z d b ≡ true
+        from h = let w = standing (isDroppedWrite z d) b low h in rw (w .3) at (drop-flushes z d (w .0) (in-order z d (w .0) (w .1) .1) (w .2))
+
+        to : flushed z d b ≡ true → member b (column z d (isDroppedWrite z d)) ≡ true
+        to h = let w = flushed-by z d b h in stands (isDroppedWrite z d) b low (w .0) (w .1) (write-used z d (w .0) (dropped-write z d (w .0) (w .2) .0)) (w .2) (w .3)
+
+    unsaved-stands : member b (column z d (isUnsaved z d)) ≡ unsaved z d b
+    unsaved-stands = same-truth _ _ from to
+      where
+        from : member b (column z d (isUnsaved z d)) ≡ true → unsaved z d b ≡ true
+        from h =
+            let w = standing (isUnsaved z d) b low h in
+            rw (w .3) at (drop-saves z d (w .0) (in-order z d (w .0) (w .1) .1) (and-left (isDroppedCopy z d (w .0)) (isDirty z d (w .0)) (w .2)) (and-right (isDroppedCopy z d (w .0)) (isDirty z d (w .0)) (w .2)))
+
+        to : unsaved z d b ≡ true → member b (column z d (isUnsaved z d)) ≡ true
+        to h =
+            let w = unsaved-by z d b h in
+            stands (isUnsaved z d) b low (w .0) (w .1) (copy-used z d (w .0) (complete-copy z d (w .0) (dropped-copy z d (w .0) (w .2) .0 .is-complete))) (and-true (w .2) (w .3)) (w .4)
+
+    -- b is rescued
+    pub rescued-stands : isRescued z d b ≡ member b (column z d (isDroppedWrite z d) ++ column z d (isUnsaved z d))
+    unfolding isRescued
+    rescued-stands = rw (← flushed-stands, ← unsaved-stands) (sym (member-both b (column z d (isDroppedWrite z d)) (column z d (isUnsaved z d))))
+
+    -- ---- the buckets beside b
+
+    beside-kept : (t : ℕ → Bool) (l : List ℕ) → beside b (map (named z d t) l) l ≡ keep (isOf z d t b) l
+    unfolding beside keep
+    beside-kept t [] = refl
+    beside-kept t (c ∷ l) = rw (named-is z d t b c low, beside-kept t l)
+
+    pub logs-beside : beside b (column z d (isWrite z d)) (inOrder z d) ≡ byEpoch z d (buckets z d (isWriteOf z d b))
+    unfolding isWriteOf
+    logs-beside = beside-kept (isWrite z d) (inOrder z d)
+        ∙ sym (filtered z d (isWriteOf z d b) (λ c h. write-used z d c (and-left (isWrite z d c) (eqb (backOf z d c) b) h)))
+
+    -- b has a copy
+    module _ (formed : Formed z d) where
+      has-copy : member b (column z d (isChosen z d)) ≡ true → (empty (chosen z d b) ≡ false) × (head (chosen z d b) ≡ head (beside b (column z d (isChosen z d)) (inOrder z d)))
+      has-copy h =
+          let w = standing (isChosen z d) b low h in
+          let copies = keep (isOf z d (isChosen z d) b) (inOrder z d) in
+          let one : 1 ≤ times (w .0) copies = rw (in-kept (isOf z d (isChosen z d) b) (w .0) (inOrder z d) (and-true (w .2) (eq-eqb (backOf z d (w .0)) b (w .3)))) (w .1) in
+          let k = kept-in (isOf z d (isChosen z d) b) (head copies) (inOrder z d) (head-in copies (some-in (w .0) copies one)) in
+          let r = head-chosen z d formed b (head copies) (in-order z d (head copies) (k .1) .1)
+          (chosen-of z d (head copies) (and-left (isChosen z d (head copies)) (eqb (backOf z d (head copies)) b) (k .0)))
+          (eqb-true (backOf z d (head copies)) b (and-right (isChosen z d (head copies)) (eqb (backOf z d (head copies)) b) (k .0))) in
+          (r .0, r .1 ∙ ap head (sym (beside-kept (isChosen z d) (inOrder z d))))
+
+      no-copy : member b (column z d (isChosen z d)) ≡ false → empty (chosen z d b) ≡ true
+      no-copy h = go (empty (chosen z d b)) refl
+        where
+          go : (t : Bool) → empty (chosen z d b) ≡ t → t ≡ true
+          go true e = refl
+          go false e =
+              let c = head (chosen z d b) in
+              let w = chosen-in z d b c (head-in (chosen z d b) e) in
+              absurd (true≢false (sym (stands (isChosen z d) b low c (w .1) (copy-used z d c (complete-copy z d c (w .0 .is-complete))) (chosen-test z d c (w .0)) (w .2)) ∙ h))
+
+      pub copy-beside : {A : Type 0} (at : ℕ → A) (other : A)
+          → (if member b (column z d (isChosen z d)) then at (head (beside b (column z d (isChosen z d)) (inOrder z d))) else other)
+          ≡ (if empty (chosen z d b) then other else at (head (chosen z d b)))
+      copy-beside at other = go (member b (column z d (isChosen z d))) refl
+        where
+          go : (t : Bool) → member b (column z d (isChosen z d)) ≡ t
+              → (if t then at (head (beside b (column z d (isChosen z d)) (inOrder z d))) else other) ≡ (if empty (chosen z d b) then other else at (head (chosen z d b)))
+          go true e = let w = has-copy e in rw (w .0, w .1)
+          go false e = rw (no-copy e)

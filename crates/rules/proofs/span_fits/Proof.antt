@@ -1,0 +1,56 @@
+use Prim.Native.Nat.{_*_, ℕ, _+_, _-_, _≤_}
+use lib.ListN.{length}
+use Rattle.rules.proofs.Buckets.{span-one, span-split, span-inside}
+use Rattle.rules.specs.Pages.{fitsFrom}
+use Rattle.image.specs.Chip.{spareOnly}
+use Rattle.model.specs.Sizes.{body}
+use Rattle.lists.specs.Lists.{allBelow}
+use mathlib.Core.Path.{_≡_, sym, ap, _∙_}
+use native.Mathlib.Omega.{arith}
+use borrow.Author.Needs.{needs}
+use Rattle.rules.proofs.span_fits.Statement.{statement}
+use Rattle.rules.proofs.span_fits.Tie as tie
+
+inside : (c : tie.Start) → (c .args .c * c .args .z .p + (c .args .e - c .args .c) * c .args .z .p) * 16 ≤ length (c .args .spare .now)
+unfolding body
+inside c = span-inside (c .pre .0) (c .args .c) (c .args .e) (omega (arith, c .pre .1 .some)) (c .pre .1 .within)
+
+add-if1 : tie.Need-add-if1
+add-if1 c = search needs
+
+bucket-fits-requires : tie.Need-bucket-fits-requires
+bucket-fits-requires c κs = search needs
+
+returns : tie.Need-returns
+returns c = let a = c .before .before .before .args in let d = spareOnly (a .spare .now) in
+    let one : a .e - a .c ≡ 1 = omega (arith, c .before .if1 .taken) in
+    c .bucket-fits .ensures ∙ sym (ap (λ (n : ℕ). allBelow n (fitsFrom (a .z) d (a .c))) one ∙ span-one (a .z) (a .spare .now) (a .c))
+
+mul-are-blank : tie.Need-mul-are-blank
+mul-are-blank c = omega (arith, inside (c .before .before .before))
+
+sub-are-blank : tie.Need-sub-are-blank
+sub-are-blank c = search needs
+
+mul-are-blank-2 : tie.Need-mul-are-blank-2
+mul-are-blank-2 c = omega (arith, inside (c .before .before .before .before))
+
+are-blank-requires : tie.Need-are-blank-requires
+are-blank-requires c κs = inside (c .before .before .before .before)
+
+returns-2 : tie.Need-returns-2
+returns-2 c = let o = c .before .before .before .before .before in let a = o .args in let s = o .pre .1 in
+    c .are-blank .ensures ∙ span-split (a .z) (a .spare .now) (a .c) (a .e - a .c) (λ j h. s .erased (c .before .before .before .if1 .left) (a .c + j) (omega arith) (omega (arith, s .some)))
+
+pub span-fits-spec : {M : Type 1} → statement M
+span-fits-spec =
+    tie.close
+    (tie.spec
+    add-if1
+    bucket-fits-requires
+    returns
+    mul-are-blank
+    sub-are-blank
+    mul-are-blank-2
+    are-blank-requires
+    returns-2)
