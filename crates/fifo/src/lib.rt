@@ -78,7 +78,7 @@ impl Fifo {
         if n == 0 {
             return self;
         }
-        let next = copied(items, 0, items, 1, n - 1);
+        let next = shifted(items, n - 1);
         Fifo {
             items: next,
             len: n - 1,
@@ -129,6 +129,20 @@ impl Fifo {
             len: n,
         }
     }
+}
+
+// Each of the first n takes the next one's item. Within one array: two would be copied.
+fn shifted(items: [u8; 256], n: usize) -> [u8; 256]
+    requires { ⌜ n < 256 ⌝ }
+    ensures { λ r. ⌜ r ≡ paste items 0 (drop 1 items) n ⌝ }
+{
+    let mut a = items;
+    let mut i = 0;
+    while i < n {
+        a[i] = a[i + 1];
+        i += 1;
+    }
+    a
 }
 
 // `into` with n items of `from`, taken from the index `start` on, in the places from `at` on.

@@ -1,22 +1,24 @@
 -- The first page of a bucket, by single spare bytes.
-use Prim.Native.Nat.{ℕ, _+_, _*_, _≤_, _<_}
-use mathlib.Core.Path.{_≡_, refl, sym, ap}
+use Prim.Native.Nat.{ℕ, _+_, _-_, _*_, _≤_, _<_}
+use mathlib.Core.Path.{_≡_, refl, sym, ap, _∙_}
 use mathlib.Core.Bool.{Bool, true, false, not, _&&_}
 use mathlib.Core.List.{List}
 use native.Mathlib.Nat.{add-zero}
 use native.Mathlib.Omega.{arith}
+use native.Mathlib.Decide.{decLt}
 use lib.ListN.{length}
 use lib.Dec.{eqb}
-use borrow.Author.Tests.{eq-eqb, ne-eqb}
+use borrow.Author.Tests.{eq-eqb, ne-eqb, leb-true, leb-false}
 use Rattle.lists.specs.Lists.{allBelow, part}
 use Rattle.lists.proofs.Rows.{all-below}
 use Rattle.lists.proofs.Tests.{and-left}
 use Rattle.model.specs.declared.Sizes.{Sizes}
 use Rattle.model.specs.Sizes.{Device, pageIndex, body}
-use Rattle.model.specs.Spare.{blank, kind, epoch}
+use Rattle.model.specs.Spare.{blank, kind, epoch, ordinal, pages}
 use Rattle.model.specs.Stores.{tagOf}
-use Rattle.model.specs.Image.{pageFits, bucketFits, wellFormed}
-use Rattle.model.proofs.Formed.{page-fields}
+use Rattle.model.specs.Image.{pageFits, bucketFits, wellFormed, blanks}
+use Rattle.model.proofs.Formed.{page-fields, blank-from}
+use Rattle.model.proofs.Tags.{blank-true}
 use Rattle.spare.proofs.Looked.{kind-erased, epoch-erased}
 use Rattle.image.specs.Chip.{Chip}
 use Rattle.image.proofs.Place.{page-inside}
@@ -63,3 +65,32 @@ write-kind tag = go (blank tag) refl
     go : (t : Bool) → blank tag ≡ t → eqb (kind tag) 2 ≡ (not t && eqb (kind tag) 2)
     go true e = ap (λ (k : ℕ). eqb k 2) (kind-erased tag e)
     go false e = refl
+
+-- the erased bytes of a blank page end no log
+pub ends-used : (tag : List ℕ) → eqb (ordinal tag + 1) (pages tag) ≡ (not (blank tag) && eqb (ordinal tag + 1) (pages tag))
+unfolding ordinal pages
+ends-used tag = go (blank tag) refl
+  where
+    go : (t : Bool) → blank tag ≡ t → eqb (ordinal tag + 1) (pages tag) ≡ (not t && eqb (ordinal tag + 1) (pages tag))
+    go true e = rw (blank-true tag e)
+    go false e = refl
+
+-- where the programmed pages of a bucket that fits end
+pub programmed-end : (z : Sizes) (d : Device) (c k : ℕ) → bucketFits z d c ≡ true → k ≤ z .p → ((j : ℕ) → j < k → blank (tagOf z d c j) ≡ false)
+    → (k < z .p → blank (tagOf z d c k) ≡ true) → k ≡ z .p - blanks z d c
+unfolding bucketFits
+programmed-end z d c k h inside before behind = go (decLt k (z .p)) (decLt 0 k)
+  where
+    fit : (j : ℕ) → j < z .p → pageFits z d c j ≡ true
+    fit = all-below (z .p) (pageFits z d c) h
+
+    high : Dec (k < z .p) → z .p - blanks z d c ≤ k
+    high (yes u) = leb-true (z .p - blanks z d c) k (sym (blank-from z d c fit k u) ∙ behind u)
+    high (no u) = omega arith
+
+    low : Dec (0 < k) → k ≤ z .p - blanks z d c
+    low (yes u) = omega (arith, leb-false (z .p - blanks z d c) (k - 1) (sym (blank-from z d c fit (k - 1) (omega arith)) ∙ before (k - 1) (omega arith)))
+    low (no u) = omega arith
+
+    go : Dec (k < z .p) → Dec (0 < k) → k ≡ z .p - blanks z d c
+    go u v = omega (arith, high u, low v)

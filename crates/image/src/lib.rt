@@ -5,9 +5,9 @@ use model::Sizes;
 use spare::Seen;
 ghost use mathlib.Core.Path.{_≡_};
 ghost use mathlib.Core.Bool.{true};
-ghost use Prim.Native.Nat.{_<_};
+ghost use Prim.Native.Nat.{_-_, _<_};
 ghost use Rattle.model.specs.Stores.{tagOf};
-ghost use Rattle.model.specs.Image.{bucketFits, used, epochOf, backOf, isWrite, isCopy, isDirty, complete, pageBlank, blanks};
+ghost use Rattle.model.specs.Image.{bucketFits, used, epochOf, backOf, isWrite, isCopy, isDirty, complete, pageBlank, endsLog, blanks};
 ghost use Rattle.spare.specs.Fields.{seen};
 ghost use Rattle.image.specs.Chip.{Chip, spareOnly};
 
@@ -100,6 +100,16 @@ pub fn page_blank(z: Sizes, c: usize, k: usize, spare: &[u8]) -> bool
     }
 }
 
+// Whether page k is the last of a log that has all its pages.
+pub fn ends_log(z: Sizes, c: usize, k: usize, spare: &[u8]) -> bool
+    requires { ⌜ Chip z (now spare) ⌝ }
+    requires { ⌜ c < z .c ⌝ }
+    requires { ⌜ k < z .p ⌝ }
+    ensures { λ r. ⌜ r ≡ endsLog z (spareOnly (now (spare .entry))) c k ⌝ }
+{
+    spare::ends_at(spare, c * z.p + k)
+}
+
 // A Read or Dirty bucket with all its pages programmed.
 pub fn complete(z: Sizes, c: usize, spare: &[u8]) -> bool
     requires { ⌜ Chip z (now spare) ⌝ }
@@ -109,6 +119,23 @@ pub fn complete(z: Sizes, c: usize, spare: &[u8]) -> bool
 {
     let copy = is_copy(z, c, spare);
     copy & (spare::kind_at(spare, c * z.p + (z.p - 1)) != 255)
+}
+
+// How many pages of a bucket that fits are programmed: those before the first that has no kind.
+pub fn programmed(z: Sizes, c: usize, spare: &[u8]) -> usize
+    requires { ⌜ Chip z (now spare) ⌝ }
+    requires { ⌜ c < z .c ⌝ }
+    requires { ⌜ bucketFits z (spareOnly (now spare)) c ≡ true ⌝ }
+    ensures { λ r. ⌜ r ≡ z .p - blanks z (spareOnly (now (spare .entry))) c ⌝ }
+{
+    let mut k = 0;
+    while k < z.p {
+        if spare::kind_at(spare, c * z.p + k) == 255 {
+            return k;
+        }
+        k += 1;
+    }
+    k
 }
 
 // How many of the bucket's pages are blank.

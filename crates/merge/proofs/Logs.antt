@@ -3,21 +3,21 @@ use Rattle.model.proofs.Limits.{on-chip}
 use mathlib.Core.Path.{_≡_, sym, ap, _∙_}
 use mathlib.Core.Bool.{true, false}
 use mathlib.Core.List.{List}
-use Prim.Native.Nat.{ℕ, suc, _+_, _-_, _*_, _≤_, _<_}
-use native.Mathlib.Nat.{mul-le-mul-right, le-refl}
+use Prim.Native.Nat.{ℕ, zero, suc, _+_, _-_, _*_, _≤_, _<_}
+use native.Mathlib.Nat.{mul-le-mul-right, le-refl, add-zero}
 use native.Mathlib.Numerals.{add-one}
 use native.Mathlib.Omega.{arith}
 use lib.ListN.{length, replicate, length-replicate}
 use lib.Dec.{eqb}
-use borrow.Author.Tests.{eq-eqb, ne-eqb}
+use borrow.Author.Tests.{eq-eqb, eqb-true, le-leb}
 use Rattle.lists.specs.Lists.{splice}
 use Rattle.lists.proofs.Windows.{part-part}
 use Rattle.model.specs.declared.Sizes.{Sizes}
 use Rattle.model.specs.Sizes.{bucketSize, body, flashSize, spareSize, diskSize}
 use Rattle.model.specs.Spare.{blank, ordinal, pages, offset, extent}
 use Rattle.model.specs.Stores.{tagOf, bucketBytes}
-use Rattle.model.specs.Image.{pageFits, endsLog, logBytes, mergeTo}
-use Rattle.model.proofs.Formed.{Formed, formed-of, page-fields, log-pages, log-inside}
+use Rattle.model.specs.Image.{pageFits, endsLog, logBytes, mergeTo, blanks}
+use Rattle.model.proofs.Formed.{Formed, formed-of, page-fields, blank-from, log-pages, log-inside}
 use Rattle.model.proofs.MergeBytes.{length-mergeTo}
 use Rattle.geometry.specs.Geometry.{device}
 use Rattle.spare.specs.Fields.{fields, seen}
@@ -102,11 +102,34 @@ module _ {z : Sizes} {flash spare : List ℕ} (readable : Readable z flash spare
       unfolding mergeTo
       log-laid base = rw (add-one k, complete, offset-said, log-bytes)
 
-    -- it is not, and nothing is laid
-    pub log-lacking : (f .ordinal + 1 ≡ f .pages → ⊥) → (base : List ℕ) → mergeTo z (chip flash spare) c base (k + 1) ≡ mergeTo z (chip flash spare) c base k
-    unfolding mergeTo
-    log-lacking lacking base = rw (add-one k, ends ∙ ne-eqb _ _ lacking)
+    pub ends-last : endsLog z (spareOnly spare) c k ≡ true → f .ordinal + 1 ≡ f .pages
+    unfolding endsLog tagOf
+    ends-last e = eqb-true (f .ordinal + 1) (f .pages) (sym ends ∙ e)
+
+  -- it is not, and nothing is laid
+  pub log-lacking : (k : ℕ) → endsLog z (spareOnly spare) c k ≡ false → (base : List ℕ) → mergeTo z (chip flash spare) c base (k + 1) ≡ mergeTo z (chip flash spare) c base k
+  unfolding mergeTo endsLog tagOf
+  log-lacking k lacking base = rw (add-one k, lacking)
 
   pub nothing-laid : (k : ℕ) → seen (tagOf z (spareOnly spare) c k) ≡ Blank → (base : List ℕ) → mergeTo z (chip flash spare) c base (k + 1) ≡ mergeTo z (chip flash spare) c base k
   unfolding mergeTo endsLog tagOf
   nothing-laid k says base = rw (add-one k, seen-blank _ says)
+
+  blank-ends : (k : ℕ) → z .p - blanks z (spareOnly spare) c ≤ k → k < z .p → endsLog z (spareOnly spare) c k ≡ false
+  unfolding endsLog
+  blank-ends k h page =
+      rw (blank-from z (spareOnly spare) c (λ j q. formed-of z (spareOnly spare) (readable .well-formed) .pages-fit c j bucket q) k page ∙ le-leb (z .p - blanks z (spareOnly spare) c) k h)
+
+  -- nor by the blank pages at the end
+  pub merged-programmed : (base : List ℕ) → mergeTo z (chip flash spare) c base (z .p - blanks z (spareOnly spare) c) ≡ mergeTo z (chip flash spare) c base (z .p)
+  merged-programmed base =
+      let last : (z .p - blanks z (spareOnly spare) c) + (z .p - (z .p - blanks z (spareOnly spare) c)) ≡ z .p = omega arith in
+      sym (ap (mergeTo z (chip flash spare) c base) (sym last) ∙ go (z .p - (z .p - blanks z (spareOnly spare) c)) (omega arith))
+    where
+      go : (n : ℕ) → (z .p - blanks z (spareOnly spare) c) + n ≤ z .p
+          → mergeTo z (chip flash spare) c base ((z .p - blanks z (spareOnly spare) c) + n) ≡ mergeTo z (chip flash spare) c base (z .p - blanks z (spareOnly spare) c)
+      go zero h = ap (mergeTo z (chip flash spare) c base) (add-zero (z .p - blanks z (spareOnly spare) c))
+      go (suc n) h =
+          let k = (z .p - blanks z (spareOnly spare) c) + n in
+          let next : (z .p - blanks z (spareOnly spare) c) + suc n ≡ k + 1 = omega arith in
+          ap (mergeTo z (chip flash spare) c base) next ∙ log-lacking k (blank-ends k (omega arith) (omega arith)) base ∙ go n (omega arith)

@@ -74,13 +74,13 @@ fn lay_page(
     requires { ⌜ from + length (now window) ≤ bucketSize z ⌝ }
     ensures { λ _. ⌜ ((base : List ℕ) → length base ≡ bucketSize z → Turns from (mergeTo z (chip (now (flash .entry)) (now (spare .entry))) c base k) (mergeTo z (chip (now (flash .entry)) (now (spare .entry))) c base (k + 1)) (now (window .entry)) (now (window .exit))) ⌝ }
 {
+    if !image::ends_log(z, c, k, spare) {
+        return;
+    }
     let page = image::look(z, c, k, spare);
     let Seen::Programmed(f) = page else {
         return;
     };
-    if f.ordinal as usize + 1 != f.pages as usize {
-        return;
-    }
     lay_log(z, c, k, f, from, flash, window);
 }
 
@@ -91,8 +91,9 @@ pub fn merge_range(z: Sizes, c: usize, from: usize, flash: &[u8], spare: &[u8], 
     requires { ⌜ from + length (now window) ≤ bucketSize z ⌝ }
     ensures { λ _. ⌜ ((base : List ℕ) → length base ≡ bucketSize z → Turns from base (merge z (chip (now (flash .entry)) (now (spare .entry))) c base) (now (window .entry)) (now (window .exit))) ⌝ }
 {
+    let end = image::programmed(z, c, spare);
     let mut k = 0;
-    while k < z.p {
+    while k < end {
         lay_page(z, c, k, from, flash, spare, window);
         k += 1;
     }

@@ -243,7 +243,7 @@ fn others(items: [Entry; 64], n: usize, b: u16) -> Queue
     let mut k = 0;
     let mut i = 0;
     while i < n {
-        let e = items[i];
+        let e = a[i];
         i += 1;
         if e.back != b {
             a[k] = e;
@@ -270,7 +270,7 @@ fn with_priority(items: [Entry; 64], n: usize, b: u16, p: u8) -> [Entry; 64]
     let mut a = items;
     let mut i = 0;
     while i < n {
-        let e = items[i];
+        let e = a[i];
         let f = set_at(e, b, p);
         a[i] = f;
         i += 1;
@@ -285,7 +285,7 @@ fn halves(items: [Entry; 64], n: usize) -> [Entry; 64]
     let mut a = items;
     let mut i = 0;
     while i < n {
-        let e = items[i];
+        let e = a[i];
         a[i] = entry(e.back, e.cache, e.priority / 2);
         i += 1;
     }

@@ -1,13 +1,15 @@
 -- Runs of pages: their spare bytes as one run of FF.
-use Prim.Native.Nat.{ℕ, zero, suc, _+_, _-_, _*_, _/_, _%_, _≤_, _<_}
+use Prim.Native.Nat.{ℕ, _+_, _-_, _*_, _/_, _%_, _≤_, _<_}
 use mathlib.Core.Path.{_≡_, refl, sym, ap, _∙_}
-use mathlib.Core.Bool.{Bool, true, false, true≢false}
-use mathlib.Core.List.{List}
+use mathlib.Core.Bool.{Bool, true, false, _&&_, true≢false}
+use mathlib.Core.List.{List, [], _∷_}
 use native.Mathlib.Omega.{arith}
-use native.Mathlib.Decide.{decLt}
+use native.Mathlib.Decide.{ℕ-discrete, decLt}
 use lib.ListN.{length, getD, getD-replicate}
 use lib.Seq.{getD-take, ext-getD}
-use Rattle.lists.specs.Lists.{allBelow, part, same, ff}
+use lib.Dec.{ltb, eqb}
+use borrow.Author.Tests.{lt-ltb, le-ltb, eq-eqb, ne-eqb}
+use Rattle.lists.specs.Lists.{if_then_else_, all, allBelow, part, same, ff}
 use Rattle.lists.proofs.Tests.{same-truth}
 use Rattle.lists.proofs.Rows.{all-below, below-all}
 use Rattle.lists.proofs.Parts.{getD-part, length-part-fits, length-ff, part-ff}
@@ -28,28 +30,40 @@ getD-front : (l : List ℕ) (n i : ℕ) → i < n → getD (part l 0 n) i 0 ≡ 
 unfolding part
 getD-front l n i h = getD-take n l i 0 h
 
+abbrev pub isErased : ℕ → Bool
+isErased x = eqb x 255
+
+pub all-erased : (l : List ℕ) → all isErased l ≡ same l (ff (length l))
+unfolding all same
+all-erased [] = refl
+all-erased (x ∷ l) = ap (λ (t : Bool). isErased x && t) (all-erased l)
+
+-- the smaller of two bytes is FF if both are
+pub erased-both : (a b : ℕ) → a ≤ 255 → b ≤ 255 → isErased (if ltb a b then a else b) ≡ (isErased a && isErased b)
+erased-both a b h k = go (decLt a b) (ℕ-discrete a 255)
+  where
+    go : Dec (a < b) → Dec (a ≡ 255) → isErased (if ltb a b then a else b) ≡ (isErased a && isErased b)
+    go (yes u) e = rw (lt-ltb a b u, ne-eqb a 255 (λ q. omega arith))
+    go (no u) (yes e) = rw (le-ltb a b (omega arith), eq-eqb a 255 e)
+    go (no u) (no e) = rw (le-ltb a b (omega arith), ne-eqb a 255 e) (ne-eqb b 255 (λ q. e (omega arith)))
+
 module _ (l : List ℕ) (one : 16 ≤ length l) where
-  repeated : part l 0 16 ≡ ff 16 → part l 16 (length l - 16) ≡ part l 0 (length l - 16) → (m i : ℕ) → i < m * 16 → i < length l → getD l i 0 ≡ 255
-  repeated first e zero i h g = absurd (omega arith)
-  repeated first e (suc m) i h g = go (λ q. repeated first e m (i - 16) (omega arith) (omega arith)) (decLt i 16)
+  -- the first page is erased: so is the run, if the others are
+  pub run-others : blank (part l 0 16) ≡ true → same (part l 16 (length l - 16)) (ff (length l - 16)) ≡ same l (ff (length l))
+  run-others first = same-truth _ _
+      (λ h. to-same l (ff (length l)) (erased l (length l) refl (λ i g. go (same-equal _ _ h) i g (decLt i 16))))
+      (λ h. to-same _ _ (ap (λ (t : List ℕ). part t 16 (length l - 16)) (same-equal l (ff (length l)) h) ∙ part-ff (length l) 16 (length l - 16) (omega arith)))
     where
-      go : (16 ≤ i → getD l (i - 16) 0 ≡ 255) → Dec (i < 16) → getD l i 0 ≡ 255
-      go before (yes q) = sym (getD-front l 16 i q) ∙ (ap (λ (t : List ℕ). getD t i 0) first ∙ getD-replicate 16 i 255 0 q)
-      go before (no q) =
+      go : part l 16 (length l - 16) ≡ ff (length l - 16) → (i : ℕ) → i < length l → Dec (i < 16) → getD l i 0 ≡ 255
+      go e i g (yes q) = sym (getD-front l 16 i q) ∙ (ap (λ (t : List ℕ). getD t i 0) (blank-true _ first) ∙ getD-replicate 16 i 255 0 q)
+      go e i g (no q) =
           let back : i ≡ 16 + (i - 16) = omega arith in
           ap (λ (k : ℕ). getD l k 0) back
           ∙ (sym (getD-part l 16 (length l - 16) (i - 16) (omega arith))
-          ∙ (ap (λ (t : List ℕ). getD t (i - 16) 0) e
-          ∙ (getD-front l (length l - 16) (i - 16) (omega arith) ∙ before (omega arith))))
+          ∙ (ap (λ (t : List ℕ). getD t (i - 16) 0) e ∙ getD-replicate (length l - 16) (i - 16) 255 0 (omega arith)))
 
-  -- the first page is erased: so is the run, if each page has the bytes of the one before it
-  pub run-repeats : blank (part l 0 16) ≡ true → same (part l 16 (length l - 16)) (part l 0 (length l - 16)) ≡ same l (ff (length l))
-  run-repeats first = same-truth _ _
-      (λ h. to-same l (ff (length l)) (erased l (length l) refl (λ i g. repeated (blank-true _ first) (same-equal _ _ h) (length l) i (omega arith) g)))
-      (λ h. let e = same-equal l (ff (length l)) h in to-same _ _
-      (ap (λ (t : List ℕ). part t 16 (length l - 16)) e
-      ∙ (part-ff (length l) 16 (length l - 16) (omega arith)
-      ∙ (sym (part-ff (length l) 0 (length l - 16) (omega arith)) ∙ ap (λ (t : List ℕ). part t 0 (length l - 16)) (sym e)))))
+  pub first-erased : blank (part l 0 16) ≡ true → getD l 0 0 ≡ 255
+  first-erased first = sym (getD-front l 16 0 (omega arith)) ∙ ap (λ (t : List ℕ). getD t 0 0) (blank-true _ first)
 
   pub run-differs : blank (part l 0 16) ≡ false → same l (ff (length l)) ≡ false
   run-differs first = go (same l (ff (length l))) refl

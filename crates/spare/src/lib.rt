@@ -1,9 +1,10 @@
 // The sixteen spare bytes of a page: written from fields, and looked at.
 ghost use mathlib.Core.Path.{_≡_};
 ghost use Prim.Native.Nat.{_+_, _*_, _≤_};
+ghost use lib.Dec.{ltb, eqb};
 ghost use lib.ListN.{length};
-ghost use Rattle.lists.specs.Lists.{allBelow, same, part, ff};
-ghost use Rattle.model.specs.Spare.{two, four, blank, kind, epoch, back, zeros};
+ghost use Rattle.lists.specs.Lists.{if_then_else_, allBelow, same, part, ff};
+ghost use Rattle.model.specs.Spare.{two, four, blank, kind, ordinal, pages, epoch, back, zeros};
 ghost use Rattle.spare.specs.Fields.{tag, fields, seen, blankFrom};
 
 // What the spare bytes of a programmed page say. `last` is the log's length less one.
@@ -122,7 +123,26 @@ pub fn is_blank(bytes: &[u8]) -> bool
     )
 }
 
-// Whether the spare bytes of a run of pages are erased: those of the first are, and each other page has the bytes of the one before it.
+fn smaller(a: u8, b: u8) -> u8
+    ensures { λ r. ⌜ r ≡ (if ltb a b then a else b) ⌝ }
+{
+    if a < b { a } else { b }
+}
+
+// The least of the bytes, or FF: with no way out the loop takes many at a time.
+fn least(bytes: &[u8]) -> u8
+    ensures { λ r. ⌜ eqb r 255 ≡ same (now (bytes .entry)) (ff (length (now (bytes .entry)))) ⌝ }
+{
+    let mut least = 255;
+    let mut i = 0;
+    while i < bytes.len() {
+        least = smaller(least, bytes[i]);
+        i += 1;
+    }
+    least
+}
+
+// Whether the spare bytes of a run of pages are erased: those of the first are, and no byte of the others is less than its bytes.
 fn run_blank(bytes: &[u8]) -> bool
     requires { ⌜ 16 ≤ length (now bytes) ⌝ }
     ensures { λ r. ⌜ r ≡ same (now (bytes .entry)) (ff (length (now (bytes .entry)))) ⌝ }
@@ -130,8 +150,7 @@ fn run_blank(bytes: &[u8]) -> bool
     if !is_blank(&bytes[..16]) {
         return false;
     }
-    let rest = bytes.len() - 16;
-    equal(&bytes[16..], &bytes[..rest])
+    least(&bytes[16..]) == bytes[0]
 }
 
 // Whether n pages of the spare area are all blank, from this page on.
@@ -213,6 +232,16 @@ pub fn kind_at(spare: &[u8], page: usize) -> u8
     ensures { λ r. ⌜ r ≡ kind (part (now (spare .entry)) (page * 16) 16) ⌝ }
 {
     spare[page * 16]
+}
+
+// Whether the page is the last of its log. The erased bytes of a blank one say that it is not.
+pub fn ends_at(spare: &[u8], page: usize) -> bool
+    requires { ⌜ page * 16 + 16 ≤ length (now spare) ⌝ }
+    ensures { λ r. ⌜ r ≡ eqb (ordinal (part (now (spare .entry)) (page * 16) 16) + 1) (pages (part (now (spare .entry)) (page * 16) 16)) ⌝ }
+{
+    let start = page * 16;
+    let ordinal = spare[start + 1] as u16;
+    ordinal + 1 == spare[start + 2] as u16
 }
 
 // The epoch of a page; its erased bytes read as 4,294,967,295.

@@ -4,10 +4,13 @@ use model::Sizes;
 use queue::Queue;
 ghost use mathlib.Core.Path.{_≡_};
 ghost use mathlib.Core.List.{_++_, map};
+ghost use Prim.Native.Nat.{_+_};
+ghost use lib.Dec.{leb};
+ghost use Rattle.lists.specs.Lists.{if_then_else_};
 ghost use Rattle.lists.specs.Arrays.{joined};
 ghost use Rattle.model.specs.State.{entry, cachesOf, without};
 ghost use Rattle.model.specs.Steps.{freed, taken, dropWrite, takeCopy};
-ghost use Rattle.model.specs.Operations.{counted, accept, takeWrite, touch, withoutOldest};
+ghost use Rattle.model.specs.Operations.{halved, counted, accept, takeWrite, touch, withoutOldest};
 ghost use Rattle.fifo.specs.View.{listOf};
 ghost use Rattle.queue.specs.View.{entriesOf};
 ghost use Rattle.state.specs.View.{viewOf, stateOf, halted, Bounded};
@@ -134,13 +137,10 @@ impl State {
     pub fn counted(mut self) -> Self
         ensures { λ r. ⌜ viewOf r ≡ counted (viewOf self) ⌝ }
     {
-        if 15 <= self.accepted {
-            let writes = self.writes.halve();
-            self.writes = writes;
-            self.accepted = 0;
-            return self;
-        }
-        self.accepted = self.accepted + 1;
+        let writes = halved_when_due(self.writes, self.accepted);
+        let accepted = next_count(self.accepted);
+        self.writes = writes;
+        self.accepted = accepted;
         self
     }
 
@@ -152,6 +152,22 @@ impl State {
         self.writes = writes;
         self.counted()
     }
+}
+
+// The priorities as the write after so many leaves them. The choice is between queues: one between states would copy them whole.
+fn halved_when_due(queue: Queue, accepted: u8) -> Queue
+    ensures { λ r. ⌜ entriesOf r ≡ (if leb 15 accepted then map halved (entriesOf queue) else entriesOf queue) ⌝ }
+{
+    if 15 <= accepted {
+        return queue.halve();
+    }
+    queue
+}
+
+fn next_count(accepted: u8) -> u8
+    ensures { λ r. ⌜ r ≡ (if leb 15 accepted then 0 else accepted + 1) ⌝ }
+{
+    if 15 <= accepted { 0 } else { accepted + 1 }
 }
 
 // The GC queue with b's cache bucket behind it, if the other queue holds b.

@@ -1,9 +1,13 @@
-use Rattle.spare.proofs.Runs.{run-repeats, run-differs}
-use Rattle.lists.specs.Lists.{part}
-use borrow.Author.Tests.{not-true, not-false}
-use native.Mathlib.Omega.{arith}
+use mathlib.Core.Path.{sym, ap, _∙_}
+use Prim.Native.Nat.{ℕ, _-_}
+use lib.Dec.{eqb}
+use lib.ListN.{length}
 use lib.Seq.{length-take-le}
-use mathlib.Core.Path.{sym, _∙_}
+use native.Mathlib.Omega.{arith}
+use borrow.Author.Tests.{not-true, not-false}
+use Rattle.lists.proofs.Parts.{length-part-fits}
+use Rattle.lists.specs.Lists.{part, same, ff}
+use Rattle.spare.proofs.Runs.{run-others, run-differs, first-erased}
 use borrow.Author.Needs.{needs}
 use Rattle.spare.proofs.run_blank.Statement.{statement}
 use Rattle.spare.proofs.run_blank.Tie as tie
@@ -18,27 +22,29 @@ returns : tie.Need-returns
 unfolding part
 returns c = let o = c .before .before .before .before in sym (run-differs (o .args .bytes .now) (o .pre) (sym (c .before .is-blank .ensures) ∙ not-true _ (c .if1 .taken)))
 
-sub-rest : tie.Need-sub-rest
-sub-rest c = search needs
+sub-least : tie.Need-sub-least
+sub-least c = search needs
 
-sub-equal : tie.Need-sub-equal
-sub-equal c = search needs
+part-least-start : tie.Need-part-least-start
+part-least-start c = search needs
 
-part-equal-start : tie.Need-part-equal-start
-part-equal-start c = search needs
+part-least-end : tie.Need-part-least-end
+part-least-end c = search needs
 
-part-equal-end : tie.Need-part-equal-end
-part-equal-end c = search needs
+least-requires : tie.Need-least-requires
+least-requires c κs = search needs
 
-slice-aggregate-equal : tie.Need-slice-aggregate-equal
-slice-aggregate-equal c = sym (length-take-le _ (c .before .before .before .before .before .before .args .bytes .now) (omega arith))
-
-equal-requires : tie.Need-equal-requires
-equal-requires c κs = search needs
+shared-slice-read-result : tie.Need-shared-slice-read-result
+shared-slice-read-result c = search needs
 
 returns-2 : tie.Need-returns-2
 unfolding part
-returns-2 c = let o = c .before .before .before .before .before .before .before in c .equal .ensures ∙ run-repeats (o .args .bytes .now) (o .pre) (sym (c .before .before .before .before .is-blank .ensures) ∙ not-false _ (c .before .before .before .if1 .left))
+returns-2 c = let o = c .before .before .before .before .before .before .before in let l = o .args .bytes .now in
+    let first = sym (c .before .before .before .before .is-blank .ensures) ∙ not-false _ (c .before .before .before .if1 .left) in
+    ap (λ (x : ℕ). eqb (c .before .least .result) x) (first-erased l (o .pre) first)
+    ∙ c .before .least .ensures
+    ∙ ap (λ (n : ℕ). same (part l 16 (length l - 16)) (ff n)) (length-part-fits l 16 (length l - 16) (omega (arith, o .pre)))
+    ∙ run-others l (o .pre) first
 
 pub run-blank-spec : {M : Type 1} → statement M
 run-blank-spec =
@@ -47,10 +53,9 @@ run-blank-spec =
     slice-aggregate-is-blank
     is-blank-requires
     returns
-    sub-rest
-    sub-equal
-    part-equal-start
-    part-equal-end
-    slice-aggregate-equal
-    equal-requires
+    sub-least
+    part-least-start
+    part-least-end
+    least-requires
+    shared-slice-read-result
     returns-2)
