@@ -17,7 +17,7 @@ import tempfile
 
 ROOT = os.path.dirname(os.path.dirname(os.path.abspath(__file__)))
 WORD = 8
-OUTSIDE = ("memcpy", "memset")
+OUTSIDE = ("memcpy", "memmove", "memset")
 
 ENTRIES = {
     "format": "format::format(begun.state, z, allowance, flash, spare, disk)",
