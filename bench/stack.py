@@ -4,7 +4,7 @@
 In a library where an entry is called once it is taken apart into its caller. So a
 library is made, in a folder of its own, that calls each entry twice: there each is a
 function by itself. Its stack is that of the longest path of calls from it on, return
-addresses included; memcpy and memset count with theirs alone. A call of what is not
+addresses included; memcpy, memmove and memset count with theirs alone. A call of what is not
 known, a circle of calls or a stack pointer moved in another way ends the run with
 words that say so. Printed as a table of Markdown.
 """
