@@ -5,3 +5,4 @@ pub mod Lines
 pub mod Requests
 pub mod Ways
 pub mod Kept
+pub mod Asking

@@ -16,11 +16,12 @@ use Rattle.model.specs.Calls.{formatCall, readCall, writeCall, eraseCall, drain
 use Rattle.model.specs.Driving.{bytesOf, operation, allowance, formatSizes, lineFits, callOf}
 use Rattle.frame.specs.declared.Request.{Request}
 use Rattle.frame.specs.declared.Request.the-variants.{Bad, Format, Read, Write, Erase, Drain, Recover}
-use Rattle.frame.specs.Request.{requestOf}
+use Rattle.frame.specs.Request.{requestOf, isFormat}
 use Rattle.frame.proofs.Request.{the-type}
 use Rattle.frame.proofs.Asked.{format-asked}
-use Rattle.frame.proofs.Meaning.{isBad, isFormat, frame-format, line-bad, line-asks}
+use Rattle.frame.proofs.Meaning.{isBad, frame-format, line-bad, line-asks}
 use Rattle.calls.proofs.Asked.{two-small}
+use Rattle.drive.specs.Asking.{unmade, sizesAsked}
 
 -- a line that is not bad fits, and is a format where its request is
 module _ (line : List ℕ) (q : Request) (e : q ≡ requestOf line) (good : isBad q ≡ false) where
@@ -46,15 +47,16 @@ unfolding isBad
 asked-bad line e = not-true (lineFits line) (sym (line-bad line) ∙ ap isBad (sym e))
 
 -- a request that is neither bad nor a format, by the number of its variant
-pub other-request : (q : Request) → OneOf (2 ∷ 3 ∷ 4 ∷ 5 ∷ 6 ∷ []) (tagOf the-type q) → (isBad q ≡ false) × (isFormat q ≡ false)
-unfolding isBad isFormat
-other-request Bad h = absurd (miss (2 ∷ 3 ∷ 4 ∷ 5 ∷ 6 ∷ []) 0 tt h)
-other-request (Format n z) h = absurd (miss (2 ∷ 3 ∷ 4 ∷ 5 ∷ 6 ∷ []) 1 tt h)
-other-request (Read n b off len) h = (refl, refl)
-other-request (Write n b off) h = (refl, refl)
-other-request (Erase n) h = (refl, refl)
-other-request (Drain n) h = (refl, refl)
-other-request (Recover n) h = (refl, refl)
+pub other-request : (t : Bool) (kept : Sizes) (q : Request) → OneOf (2 ∷ 3 ∷ 4 ∷ 5 ∷ 6 ∷ []) (tagOf the-type q)
+    → (unmade t q ≡ (if t then 0 else 3)) × (sizesAsked q kept ≡ kept) × (isFormat q ≡ false)
+unfolding unmade sizesAsked isFormat
+other-request t kept Bad h = absurd (miss (2 ∷ 3 ∷ 4 ∷ 5 ∷ 6 ∷ []) 0 tt h)
+other-request t kept (Format n z) h = absurd (miss (2 ∷ 3 ∷ 4 ∷ 5 ∷ 6 ∷ []) 1 tt h)
+other-request t kept (Read n b off len) h = (refl, refl, refl)
+other-request t kept (Write n b off) h = (refl, refl, refl)
+other-request t kept (Erase n) h = (refl, refl, refl)
+other-request t kept (Drain n) h = (refl, refl, refl)
+other-request t kept (Recover n) h = (refl, refl, refl)
 
 -- the bytes that a line may read
 pub read-short : (z : Sizes) (line : List ℕ) → lineFits line ≡ true → length (lentBuffer (callOf z (bytesOf line))) ≤ 65535

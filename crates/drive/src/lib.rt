@@ -12,13 +12,14 @@ ghost use lib.ListN.{length, take};
 ghost use Rattle.lists.specs.Lists.{if_then_else_};
 ghost use Rattle.model.specs.declared.Answer.the-variants.{Done};
 ghost use Rattle.model.specs.Calls.{isDone};
-ghost use Rattle.model.specs.Driving.{bytesOf, operation, lineFits, formatSizes, tooLarge, shown, printed, formatLine, callLine, onLine};
+ghost use Rattle.model.specs.Driving.{bytesOf, lineFits, tooLarge, shown, printed, onLine};
 ghost use Rattle.model.proofs.Limits.{Limits};
 ghost use Rattle.geometry.specs.Geometry.{device};
-ghost use Rattle.frame.specs.Request.{requestOf};
+ghost use Rattle.frame.specs.Request.{requestOf, isFormat};
 ghost use Rattle.outcome.specs.Handed.{handedBack};
 ghost use Rattle.calls.specs.Arrays.{Arrays, Held};
 ghost use Rattle.drive.specs.Recorder.{recorderOf, printedOf, outcomeOf, Ready, Room, after, calledLine};
+ghost use Rattle.drive.specs.Asking.{formatUnmade, unmade, sizesAsked};
 
 // What the program holds from line to line beside its arrays; the sizes are those of the last Done format, if there was one.
 pub struct Recorder {
@@ -129,66 +130,53 @@ fn called_line(
     Printed { recorder, length }
 }
 
-fn format_line(
-    r: Recorder,
-    z: Sizes,
-    request: Request,
-    line: &[u8],
-    buffer: &mut [u8],
-    flash: &mut [u8],
-    spare: &mut [u8],
-    disk: &mut [u8],
-    out: &mut [u8],
-) -> Printed
-    requires { ⌜ (lineFits (now line) ≡ true) × (request ≡ requestOf (now line)) ⌝ }
-    requires { ⌜ (operation (bytesOf (now line)) ≡ 1) × (z ≡ formatSizes (bytesOf (now line))) ⌝ }
-    requires { ⌜ Arrays (now flash) (now spare) (now disk) × Room (now buffer) (now out) ⌝ }
-    ensures { λ p. ⌜ printedOf p (now (flash .exit)) (now (spare .exit)) (now (disk .exit)) (now (out .exit)) ≡ formatLine (recorderOf r (now (flash .entry)) (now (spare .entry)) (now (disk .entry))) (bytesOf (now (line .entry))) ⌝ }
-    ensures { λ p. ⌜ p .length ≤ length (now (out .exit)) ⌝ }
+// "F1 for valid sizes", so after number 1.
+fn format_unmade(z: Sizes) -> u8
+    ensures { λ r. ⌜ r ≡ formatUnmade z ⌝ }
 {
     if !geometry::limits(z) {
-        return no_call(1, r, out);
+        return 1;
     }
-    if too_large(z) {
-        return no_call(241, r, out);
-    }
-    called_line(r, z, true, request, line, buffer, flash, spare, disk, out)
+    if too_large(z) { 241 } else { 0 }
 }
 
-// "02 to 06 before a format that was Done print 030000."
-fn call_line(
-    r: Recorder,
-    request: Request,
-    line: &[u8],
-    buffer: &mut [u8],
-    flash: &mut [u8],
-    spare: &mut [u8],
-    disk: &mut [u8],
-    out: &mut [u8],
-) -> Printed
-    requires { ⌜ (lineFits (now line) ≡ true) × (request ≡ requestOf (now line)) ⌝ }
-    requires { ⌜ Arrays (now flash) (now spare) (now disk) × Room (now buffer) (now out) × Ready (r .formatted) (r .sizes) ⌝ }
-    ensures { λ p. ⌜ printedOf p (now (flash .exit)) (now (spare .exit)) (now (disk .exit)) (now (out .exit)) ≡ callLine (recorderOf r (now (flash .entry)) (now (spare .entry)) (now (disk .entry))) (bytesOf (now (line .entry))) ⌝ }
-    ensures { λ p. ⌜ p .length ≤ length (now (out .exit)) ⌝ }
+// What a line asks for: the number printed of it if it makes no call, or 0; the sizes of its call; whether that is a format.
+struct Asked {
+    unmade: u8,
+    sizes: Sizes,
+    format: bool,
+}
+
+// "F0, before all else"; "02 to 06 before a format that was Done print 030000". A format has sizes of its own.
+fn asks(formatted: bool, kept: Sizes, request: Request) -> Asked
+    ensures { λ r. ⌜ (r .unmade ≡ unmade formatted request) × (r .sizes ≡ sizesAsked request kept) × (r .format ≡ isFormat request) ⌝ }
 {
-    if !r.formatted {
-        return no_call(3, r, out);
+    match request {
+        Request::Bad => Asked {
+            unmade: 240,
+            sizes: kept,
+            format: false,
+        },
+        Request::Format { allowance, sizes } => {
+            let unmade = format_unmade(sizes);
+            Asked {
+                unmade,
+                sizes,
+                format: true,
+            }
+        }
+        _ => {
+            let unmade = if formatted { 0 } else { 3 };
+            Asked {
+                unmade,
+                sizes: kept,
+                format: false,
+            }
+        }
     }
-    called_line(
-        r,
-        r.sizes,
-        false,
-        request,
-        line,
-        buffer,
-        flash,
-        spare,
-        disk,
-        out,
-    )
 }
 
-// The line's text stands at the start of `out`. "F0, before all else".
+// The line's text stands at the start of `out`. All calls are made at one place, so that the recorder is handed on without a copy of it.
 pub fn on_line(
     r: Recorder,
     line: &[u8],
@@ -203,19 +191,21 @@ pub fn on_line(
     ensures { λ p. ⌜ Ready (p .recorder .formatted) (p .recorder .sizes) × (p .length ≤ length (now (out .exit))) ⌝ }
 {
     let request = frame::request_of(line);
-    match request {
-        Request::Bad => no_call(240, r, out),
-        Request::Format { allowance, sizes } => format_line(
-            r,
-            sizes,
-            request,
-            line,
-            buffer,
-            flash,
-            spare,
-            disk,
-            out,
-        ),
-        _ => call_line(r, request, line, buffer, flash, spare, disk, out),
+    let asked = asks(r.formatted, r.sizes, request);
+    if asked.unmade != 0 {
+        return no_call(asked.unmade, r, out);
     }
+    let z = asked.sizes;
+    called_line(
+        r,
+        z,
+        asked.format,
+        request,
+        line,
+        buffer,
+        flash,
+        spare,
+        disk,
+        out,
+    )
 }

@@ -12,7 +12,7 @@ use Rattle.model.specs.Calls.{Call, formatCall, readCall, writeCall, eraseCall,
 use Rattle.model.specs.Driving.{bytesOf, operation, allowance, formatSizes, lineFits, callOf}
 use Rattle.frame.specs.declared.Request.{Request}
 use Rattle.frame.specs.declared.Request.the-variants.{Bad, Format, Read, Write, Erase, Drain, Recover}
-use Rattle.frame.specs.Request.{readFrom, writeFrom, frameRequest, requestOf}
+use Rattle.frame.specs.Request.{readFrom, writeFrom, frameRequest, requestOf, isFormat}
 
 -- the call, at the sizes of the last Done format, with a write's data; of no meaning where the line is bad
 unfoldable pub callFrom : Sizes → List ℕ → Request → Call
@@ -41,15 +41,6 @@ isBad (Write n b off) = false
 isBad (Erase n) = false
 isBad (Drain n) = false
 isBad (Recover n) = false
-
-unfoldable pub isFormat : Request → Bool
-isFormat Bad = false
-isFormat (Format n sizes) = true
-isFormat (Read n b off len) = false
-isFormat (Write n b off) = false
-isFormat (Erase n) = false
-isFormat (Drain n) = false
-isFormat (Recover n) = false
 
 -- ---- a frame's request
 

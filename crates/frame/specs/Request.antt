@@ -1,5 +1,6 @@
 -- What a line asks for.
 use Prim.Native.Nat.{ℕ}
+use mathlib.Core.Bool.{Bool, true, false}
 use mathlib.Core.List.{List}
 use lib.Dec.{eqb}
 use Rattle.lists.specs.Lists.{if_then_else_}
@@ -25,3 +26,12 @@ frameRequest f =
 
 unfoldable pub requestOf : List ℕ → Request
 requestOf line = if lineFits line then frameRequest (bytesOf line) else Bad
+
+unfoldable pub isFormat : Request → Bool
+isFormat Bad = false
+isFormat (Format n sizes) = true
+isFormat (Read n b off len) = false
+isFormat (Write n b off) = false
+isFormat (Erase n) = false
+isFormat (Drain n) = false
+isFormat (Recover n) = false

@@ -16,14 +16,14 @@ ghost use Rattle.queue.specs.View.{entriesOf};
 ghost use Rattle.state.specs.View.{viewOf, stateOf, halted, Bounded};
 
 pub struct State {
-    pub sizes: Sizes,
-    pub running: bool,
     pub reads: Queue,
     pub writes: Queue,
     pub gc: Fifo,
     pub free: Fifo,
-    pub accepted: u8,
+    pub sizes: Sizes,
     pub next: u64,
+    pub accepted: u8,
+    pub running: bool,
 }
 
 impl State {

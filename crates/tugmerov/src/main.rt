@@ -77,6 +77,17 @@ fn walk_piece(
     write_out(walk, out)
 }
 
+// How many bytes of the piece are there to be walked: those that were read or, at the end of the input, what closes it.
+fn closed(got: usize, held: usize, piece: &mut [u8]) -> usize
+    requires { ⌜ (1 ≤ length (now piece)) × (got ≤ length (now piece)) ⌝ }
+    ensures { λ r. ⌜ r ≤ length (now (piece .exit)) ⌝ }
+{
+    if got == 0 {
+        return input::closing(held, piece);
+    }
+    got
+}
+
 // A proved loop has to end, and nothing says that the input does: the loop counts its turns down.
 fn walk_pieces(
     w: Walk,
@@ -87,19 +98,20 @@ fn walk_pieces(
     spare: &mut [u8],
     disk: &mut [u8],
     out: &mut [u8],
-) -> Walk
+)
     requires { ⌜ Sound w (now line) (now buffer) (now flash) (now spare) (now disk) (now out) × (32775 ≤ length (now out)) ⌝ }
-    ensures { λ r. ⌜ Sound r (now (line .exit)) (now (buffer .exit)) (now (flash .exit)) (now (spare .exit)) (now (disk .exit)) (now (out .exit)) ⌝ }
+    requires { ⌜ 1 ≤ length (now piece) ⌝ }
 {
     let mut walk = w;
     let mut turns = u64::MAX;
-    let mut n = read_piece(piece);
-    while turns > 0 && n > 0 {
+    let mut ended = false;
+    while turns > 0 && !ended {
+        let got = read_piece(piece);
+        let n = closed(got, walk.held, piece);
         walk = walk_piece(walk, &piece[..n], line, buffer, flash, spare, disk, out);
-        n = read_piece(piece);
+        ended = got == 0;
         turns -= 1;
     }
-    walk
 }
 
 fn walk_input(
@@ -111,14 +123,11 @@ fn walk_input(
     disk: &mut [u8],
     out: &mut [u8],
 )
-    requires { ⌜ (length (now line) ≡ 513) × (65535 ≤ length (now buffer)) × (32775 ≤ length (now out)) ⌝ }
+    requires { ⌜ (length (now line) ≡ 513) × (65535 ≤ length (now buffer)) × (32775 ≤ length (now out)) × (1 ≤ length (now piece)) ⌝ }
     requires { ⌜ Arrays (now flash) (now spare) (now disk) ⌝ }
 {
     let start = input::start();
-    let walk = walk_pieces(start, piece, line, buffer, flash, spare, disk, out);
-    let ready = with_room(walk, out);
-    let last = input::finish(ready, line, buffer, flash, spare, disk, out);
-    write_out(last, out);
+    walk_pieces(start, piece, line, buffer, flash, spare, disk, out);
 }
 
 fn main() {

@@ -1,50 +1,45 @@
 -- `drive::on_line` meets its contract.
-use borrow.Author.Tests.{eq-eqb}
-use mathlib.Core.Path.{refl, sym, _∙_}
+use mathlib.Core.Bool.{Bool}
+use mathlib.Core.Path.{sym, ap, _∙_}
+use Prim.Native.Nat.{ℕ}
 use borrow.Author.Needs.{needs}
-use Rattle.frame.proofs.Meaning.{isBad}
-use Rattle.model.specs.Driving.{bytesOf, operation}
+use Rattle.model.specs.declared.Sizes.{Sizes}
+use Rattle.model.specs.Driving.{bytesOf, noCall}
+use Rattle.drive.proofs.Asking.{line-unmade, line-made}
 use Rattle.drive.proofs.Kept.{kept-ready}
-use Rattle.drive.proofs.Ways.{bad-line, format-asked, call-asked}
-use Rattle.drive.proofs.Requests.{asked-fits, asked-operation, asked-sizes, asked-bad, other-request}
 use Rattle.drive.proofs.Texts.{no-call-line}
-use Rattle.drive.specs.Recorder.{recorderOf}
+use Rattle.drive.specs.Asking.{sizesAsked}
+use Rattle.drive.specs.Recorder.{recorderOf, calledLine}
 use Rattle.drive.proofs.on_line.Statement.{statement}
 use Rattle.drive.proofs.on_line.Tie as tie
 
 request-of-requires : tie.Need-request-of-requires
 request-of-requires c κs = search needs
 
-enum-told : tie.Need-enum-told
-enum-told c = search needs
+asks-requires : tie.Need-asks-requires
+asks-requires c κs = search needs
 
 no-call-requires : tie.Need-no-call-requires
 no-call-requires c κs = search needs
-
-enum-known-request : tie.Need-enum-known-request
-enum-known-request c = search needs
-
-format-line-requires : tie.Need-format-line-requires
-unfolding isBad
-format-line-requires c κs = let start = c .before .before .before .before .before .before .before .before .before .before .before .before .before .before .before in
-    let g = c .before .before .before .before .before .before .request .given in
-    let e = sym (g .1) ∙ c .before .before .before .before .before .before .before .before .request-of .ensures in
-    ((asked-fits (start .args .line .now) _ e refl, e), (asked-sizes (start .args .line .now) (g .0 .0) (g .0 .1 .0) e, (start .pre .0, start .pre .1)))
-
-call-line-requires : tie.Need-call-line-requires
-call-line-requires c κs = let start = c .before .before .before .before .before .before .before .before .before .before .before .before .before in
-    let e = c .before .before .before .before .before .before .request-of .ensures in
-    ((asked-fits (start .args .line .now) _ e (other-request (c .before .before .before .before .before .before .request-of .result) (c .before .before .before .before .before .match .keys3) .0), e), start .pre)
 
 same-length : tie.Need-same-length
 same-length c = search needs
 
 returns : tie.Need-returns
-returns c = let start = c .before .before .before .before .before .before .before .before .before .before .before .before .before in
+returns c = let start = c .before .before .before .before .before .before .before .before .before .before .before .before .before .before in
     let a = start .args in
     let r = recorderOf (a .r) (a .flash .now) (a .spare .now) (a .disk .now) in
-    kept-ready r (start .pre .2) (a .line .now) (no-call-line 240 (a .r) (c .before .before .no-call .result) (a .flash .now) (a .spare .now) (a .disk .now) _ (c .before .before .no-call .ensures .0)
-    ∙ sym (bad-line r (a .line .now) (asked-bad (a .line .now) (sym (c .before .before .before .before .enum-told .given .1) ∙ c .before .before .before .before .before .before .request-of .ensures)))) (c .before .before .no-call .ensures .1)
+    let asked = c .before .before .before .before .before .before .asks .ensures in
+    kept-ready r (start .pre .2) (a .line .now) (no-call-line (c .before .before .before .before .before .before .asks .result .unmade) (a .r) (c .before .before .no-call .result) (a .flash .now) (a .spare .now) (a .disk .now) _ (c .before .before .no-call .ensures .0)
+    ∙ (ap (λ (n : ℕ). noCall n r) (asked .0) ∙ sym (line-unmade r (a .line .now) (c .before .before .before .before .before .before .before .request-of .result) (c .before .before .before .before .before .before .before .request-of .ensures) (λ e. c .before .before .before .before .if1 .taken (asked .0 ∙ e))))) (c .before .before .no-call .ensures .1)
+
+called-line-requires : tie.Need-called-line-requires
+called-line-requires c κs = let start = c .before .before .before .before .before .before .before .before .before .before .before .before .before .before .before .before in
+    let a = start .args in
+    let r = recorderOf (a .r) (a .flash .now) (a .spare .now) (a .disk .now) in
+    let asked = c .before .before .before .before .before .before .before .before .asks .ensures in
+    let made = line-made r (a .line .now) (c .before .before .before .before .before .before .before .before .before .request-of .result) (c .before .before .before .before .before .before .before .before .before .request-of .ensures) (sym (asked .0) ∙ c .before .before .before .before .before .before .if1 .left) in
+    ((made .0, c .before .before .before .before .before .before .before .before .before .request-of .ensures), (start .pre .0, start .pre .1, rw (asked .1) (made .2 (start .pre .2))))
 
 same-length-2 : tie.Need-same-length-2
 same-length-2 c = search needs
@@ -62,60 +57,29 @@ same-length-6 : tie.Need-same-length-6
 same-length-6 c = search needs
 
 returns-2 : tie.Need-returns-2
-unfolding isBad
-returns-2 c = let start = c .before .before .before .before .before .before .before .before .before .before .before .before .before .before .before .before .before .before .before .before .before .before .before .before .before .before in
+returns-2 c = let start = c .before .before .before .before .before .before .before .before .before .before .before .before .before .before .before .before .before .before .before .before .before .before .before .before .before .before .before in
     let a = start .args in
+    let f = bytesOf (a .line .now) in
     let r = recorderOf (a .r) (a .flash .now) (a .spare .now) (a .disk .now) in
-    let g = c .before .before .before .before .before .before .before .before .before .before .before .before .before .before .before .before .before .request .given in
-    let e = sym (g .1) ∙ c .before .before .before .before .before .before .before .before .before .before .before .before .before .before .before .before .before .before .before .request-of .ensures in
-    kept-ready r (start .pre .2) (a .line .now) (c .before .before .before .before .before .before .before .before .before .before .format-line .ensures .0
-    ∙ sym (format-asked r (a .line .now) (asked-fits (a .line .now) _ e refl) (eq-eqb (operation (bytesOf (a .line .now))) 1 (asked-sizes (a .line .now) (g .0 .0) (g .0 .1 .0) e .0)))) (c .before .before .before .before .before .before .before .before .before .before .format-line .ensures .1)
-
-same-length-7 : tie.Need-same-length-7
-same-length-7 c = search needs
-
-same-length-8 : tie.Need-same-length-8
-same-length-8 c = search needs
-
-same-length-9 : tie.Need-same-length-9
-same-length-9 c = search needs
-
-same-length-10 : tie.Need-same-length-10
-same-length-10 c = search needs
-
-same-length-11 : tie.Need-same-length-11
-same-length-11 c = search needs
-
-returns-3 : tie.Need-returns-3
-returns-3 c = let start = c .before .before .before .before .before .before .before .before .before .before .before .before .before .before .before .before .before .before .before .before .before .before .before .before in
-    let a = start .args in
-    let r = recorderOf (a .r) (a .flash .now) (a .spare .now) (a .disk .now) in
-    let e = c .before .before .before .before .before .before .before .before .before .before .before .before .before .before .before .before .before .request-of .ensures in
-    let other = other-request (c .before .before .before .before .before .before .before .before .before .before .before .before .before .before .before .before .before .request-of .result) (c .before .before .before .before .before .before .before .before .before .before .before .before .before .before .before .before .match .keys3) in
-    kept-ready r (start .pre .2) (a .line .now) (c .before .before .before .before .before .before .before .before .before .before .call-line .ensures .0
-    ∙ sym (call-asked r (a .line .now) (asked-fits (a .line .now) _ e (other .0)) (asked-operation (a .line .now) _ e (other .0) ∙ other .1))) (c .before .before .before .before .before .before .before .before .before .before .call-line .ensures .1)
+    let asked = c .before .before .before .before .before .before .before .before .before .before .before .before .before .before .before .before .before .before .before .asks .ensures in
+    let q = c .before .before .before .before .before .before .before .before .before .before .before .before .before .before .before .before .before .before .before .before .request-of .result in
+    let made = line-made r (a .line .now) q (c .before .before .before .before .before .before .before .before .before .before .before .before .before .before .before .before .before .before .before .before .request-of .ensures) (sym (asked .0) ∙ c .before .before .before .before .before .before .before .before .before .before .before .before .before .before .before .before .before .if1 .left) in
+    kept-ready r (start .pre .2) (a .line .now) (c .before .before .before .before .before .before .before .before .before .before .called-line .ensures .0
+    ∙ (ap (λ (y : Sizes). calledLine y (c .before .before .before .before .before .before .before .before .before .before .before .before .before .before .before .before .before .before .before .asks .result .format) r f) (asked .1) ∙ (ap (λ (t : Bool). calledLine (sizesAsked q (a .r .sizes)) t r f) (asked .2) ∙ sym (made .1)))) (c .before .before .before .before .before .before .before .before .before .before .called-line .ensures .1)
 
 pub on-line-spec : {M : Type 1} → statement M
 on-line-spec =
     tie.close
     (tie.spec
     request-of-requires
-    enum-told
+    asks-requires
     no-call-requires
-    enum-known-request
-    format-line-requires
-    call-line-requires
     same-length
     returns
+    called-line-requires
     same-length-2
     same-length-3
     same-length-4
     same-length-5
     same-length-6
-    returns-2
-    same-length-7
-    same-length-8
-    same-length-9
-    same-length-10
-    same-length-11
-    returns-3)
+    returns-2)

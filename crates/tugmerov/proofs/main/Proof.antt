@@ -29,7 +29,7 @@ slice-aggregate-walk-input-7 c = search needs
 
 walk-input-requires : tie.Need-walk-input-requires
 walk-input-requires c κs = (
-  (length-replicate {A = ℕ} 513 0, omega (arith, length-replicate {A = ℕ} 65536 0), omega (arith, length-replicate {A = ℕ} 131072 0)),
+  (length-replicate {A = ℕ} 513 0, omega (arith, length-replicate {A = ℕ} 65536 0), omega (arith, length-replicate {A = ℕ} 131072 0), omega (arith, length-replicate {A = ℕ} 65536 0)),
   record { flash-length = length-replicate {A = ℕ} 32768 0; spare-length = length-replicate {A = ℕ} 32768 0; disk-length = length-replicate {A = ℕ} 16384 0 },
 )
 
