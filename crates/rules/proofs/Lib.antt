@@ -1,4 +1,5 @@
 pub mod Buckets
+pub mod Later
 pub mod Page
 pub mod SameSpare
 pub mod Slots

@@ -1,120 +1,138 @@
 -- The rules for a page, by what the page is and where it stands.
-use mathlib.Core.Path.{_≡_, refl, sym, ap, _∙_}
-use mathlib.Core.Bool.{Bool, true, false, _&&_, _||_, and-assoc, and-false, true≢false}
+use mathlib.Core.Path.{_≡_, refl, _∙_}
+use mathlib.Core.Bool.{Bool, true, false, _&&_, _||_, and-assoc}
 use mathlib.Core.Bool as bool
 use mathlib.Core.Logic.{_⊎_, inl, inr, ⊎-elim}
 use mathlib.Core.List.{List, [], _∷_}
-use Prim.Native.Nat.{ℕ, zero, suc, _+_, _-_, _<_}
-use native.Mathlib.Numerals.{add-one}
+use Prim.Native.Nat.{ℕ, zero, suc, _+_, _-_, _*_, _≤_, _<_}
 use native.Mathlib.Omega.{arith}
-use lib.ListN.{getD}
-use lib.Dec.{ltb, eqb, eqb·suc-suc}
-use borrow.Author.Tests.{eqb-true, eq-eqb, ne-eqb, le-leb, lt-ltb}
-use Rattle.lists.specs.Lists.{every}
-use Rattle.lists.proofs.Tests.{true-or-false, and-left, and-true, or-true, every-at, within-true}
-use Rattle.lists.proofs.Parts.{getD-part}
-use Rattle.lists.proofs.Sames.{same-equal}
+use native.Mathlib.Nat.{lt-of-mul-lt-mul-right}
+use lib.Dec.{leb, ltb, eqb}
+use borrow.Author.Tests.{eqb-true, leb-true, ltb-true, eq-eqb, le-leb, lt-ltb}
+use Rattle.lists.specs.Lists.{every, within}
+use Rattle.lists.proofs.Tests.{same-truth, and-left, and-right, and-true, or-left, or-second, or-cases, every-at, every-more, every-none, within-low, within-high, within-true}
 use Rattle.model.specs.declared.Sizes.{Sizes}
 use Rattle.model.specs.Sizes.{Device, bucketSize, pagesFor}
-use Rattle.model.specs.Spare.{two, four, blank, writeKind, kind, ordinal, pages, epoch, back, offset, extent, zeros}
+use Rattle.model.specs.Spare.{blank, writeKind, kind, ordinal, pages, epoch, back, offset, extent, zeros}
 use Rattle.model.specs.Stores.{tagOf}
 use Rattle.model.specs.Image.{follows, spansBucket, fieldsFit, pageFits}
-use Rattle.model.proofs.Rules.{Fields, fields-of, Follows, Goes, begins, goes-on, follows-of, follows-test}
+use Rattle.model.proofs.Limits.{pages-hold, pages-least, pages-some}
+use Rattle.model.proofs.Rules.{Fields, fields-of, fields-test}
 use Rattle.image.proofs.First.{kind-used}
-use Rattle.rules.specs.Pages.{goesOn, fitsAt}
+use Rattle.rules.specs.Pages.{logFits, kindFits, fitsAt}
 
--- numbers that are one more are compared as they are
-pub eqb-more : (a b : ℕ) → eqb (a + 1) (b + 1) ≡ eqb a b
-eqb-more a b = rw (add-one a, add-one b) (eqb·suc-suc a b)
+-- the pages that a log takes hold its bytes, and one page less would not
+pub takes-test : (z : Sizes) → 1 ≤ z .s → (n m : ℕ) → (leb n (m * z .s) && ltb (m * z .s) (n + z .s)) ≡ eqb m (pagesFor z n)
+takes-test z some n m = same-truth _ _ least holds
+  where
+    least : (leb n (m * z .s) && ltb (m * z .s) (n + z .s)) ≡ true → eqb m (pagesFor z n) ≡ true
+    least h =
+        let low = leb-true n (m * z .s) (and-left _ _ h) in
+        let high = ltb-true (m * z .s) (n + z .s) (and-right (leb n (m * z .s)) _ h) in
+        let up : m < suc (pagesFor z n) = lt-of-mul-lt-mul-right (z .s) (omega (arith, pages-hold z n some)) in
+        let down : pagesFor z n < suc m = lt-of-mul-lt-mul-right (z .s) (omega (arith, pages-least z n some)) in
+        eq-eqb m (pagesFor z n) (omega arith)
+
+    holds : eqb m (pagesFor z n) ≡ true → (leb n (m * z .s) && ltb (m * z .s) (n + z .s)) ≡ true
+    holds h = rw (eqb-true m (pagesFor z n) h) (and-true (le-leb _ _ (pages-hold z n some)) (lt-ltb _ _ (pages-least z n some)))
 
 -- tests as the code groups them
+grouped-first : (a b c d e f : Bool) → (a && b && c && d && (e && f)) ≡ every (a ∷ b ∷ c ∷ d ∷ e ∷ f ∷ [])
+unfolding every
+grouped-first a b c d e f = simp (and-assoc, bool.and-true)
+
+pub grouped-three : (a b c : Bool) → (a && b && c) ≡ every (a ∷ b ∷ c ∷ [])
+unfolding every
+grouped-three a b c = simp (and-assoc, bool.and-true)
+
 pub grouped-four : (a b c d : Bool) → (a && (b && c) && d) ≡ every (a ∷ b ∷ c ∷ d ∷ [])
 unfolding every
 grouped-four a b c d = simp (and-assoc, bool.and-true)
 
-pub grouped-six : (a b c d e f : Bool) → (a && b && (c && d) && e && f) ≡ every (a ∷ b ∷ c ∷ d ∷ e ∷ f ∷ [])
-unfolding every
-grouped-six a b c d e f = simp (and-assoc, bool.and-true)
-
 pub fields-used : (z : Sizes) (tag : List ℕ) → fieldsFit z tag ≡ true → blank tag ≡ false
 fields-used z tag h = kind-used tag (λ e. omega (arith, fields-of z tag h .kind-high))
 
--- a page that continues a log shares all fields with the page before but its ordinal
-module _ (z : Sizes) (before tag : List ℕ) (fit : fieldsFit z before ≡ true) (later : eqb (ordinal tag) 0 ≡ false) where
-  whole : (kind before ≡ writeKind) ⊎ ((offset before ≡ 0) × (extent before ≡ bucketSize z))
-      → (eqb (kind before) writeKind || (eqb (offset before) 0 && eqb (extent before) (bucketSize z))) ≡ true
-  whole (inl e) = rw (eq-eqb (kind before) writeKind e)
-  whole (inr q) = rw (eq-eqb (offset before) 0 (q .0), eq-eqb (extent before) (bucketSize z) (q .1)) (or-true (eqb (kind before) writeKind))
+-- ---- the rules for one page, in the parts that are tested
 
-  shared : follows before tag ≡ true → fieldsFit z tag ≡ (zeros tag && ltb (ordinal tag) (pages tag))
-  unfolding fieldsFit every spansBucket
-  shared h = go (f .goes)
+module _ (z : Sizes) (tag : List ℕ) where
+  pub log-tested : Fields z tag → logFits z tag ≡ true
+  unfolding logFits
+  log-tested f = and-true (eq-eqb _ _ (f .pages-are)) (le-leb _ _ (f .bytes-inside))
+
+  kind-tested : Fields z tag → kindFits z tag ≡ true
+  unfolding kindFits spansBucket
+  kind-tested f = and-true (within-true 1 3 (kind tag) (f .kind-low) (f .kind-high)) (go (f .whole))
     where
-      f : Follows before tag
-      f = follows-of before tag h
+      go : (kind tag ≡ writeKind) ⊎ ((offset tag ≡ 0) × (extent tag ≡ bucketSize z))
+          → (eqb (kind tag) writeKind || (eqb (offset tag) 0 && eqb (extent tag) (bucketSize z))) ≡ true
+      go (inl e) = or-left _ _ (eq-eqb _ _ e)
+      go (inr q) = or-second (eqb (kind tag) writeKind) _ (and-true (eq-eqb _ _ (q .0)) (eq-eqb _ _ (q .1)))
 
-      r : Fields z before
-      r = fields-of z before fit
+  module _ (log : logFits z tag ≡ true) where
+    pub pages-told : pages tag ≡ pagesFor z (extent tag)
+    unfolding logFits
+    pages-told = eqb-true _ _ (and-left _ _ log)
 
-      go : Goes before tag → fieldsFit z tag ≡ (zeros tag && ltb (ordinal tag) (pages tag))
-      go (begins o k) = absurd (true≢false (sym (eq-eqb _ _ o) ∙ later))
-      go (goes-on o n i l) =
-          let e : (eqb (kind tag) writeKind || (eqb (offset tag) 0 && eqb (extent tag) (bucketSize z))) ≡ true = rw (f .kind-same, i, l) (whole (r .whole)) in
-          rw (
-            within-true 1 3 (kind tag) (omega (arith, f .kind-same, r .kind-low)) (omega (arith, f .kind-same, r .kind-high)),
-            le-leb 1 (epoch tag) (omega (arith, f .epoch-same, r .epoch-low)),
-            lt-ltb (back tag) (z .b) (omega (arith, f .back-same, r .back-below)),
-            eq-eqb (pages tag) (pagesFor z (extent tag)) (n ∙ (r .pages-are ∙ ap (pagesFor z) (sym l))),
-            le-leb (offset tag + extent tag) (bucketSize z) (omega (arith, r .bytes-inside)),
-            e,
-          )
-          (simp bool.and-true)
+    pub bytes-told : offset tag + extent tag ≤ bucketSize z
+    unfolding logFits
+    bytes-told = leb-true _ _ (and-right (eqb (pages tag) (pagesFor z (extent tag))) _ log)
 
-  pub continued : (zeros tag && ltb (ordinal tag) (pages tag) && follows before tag) ≡ (fieldsFit z tag && follows before tag)
-  continued = ⊎-elim
-      (λ h. rw (shared h))
-      (λ h. rw h (and-false (zeros tag && ltb (ordinal tag) (pages tag)) ∙ sym (and-false (fieldsFit z tag))))
-      (true-or-false (follows before tag))
+    -- a log has a page
+    pub ordinal-told : 1 ≤ z .s → ordinal tag ≡ 0 → ordinal tag < pages tag
+    unfolding extent
+    ordinal-told some first = omega (arith, first, pages-told, pages-some z (extent tag) some (omega arith))
 
--- a page that goes on like one that fits
-module _ (z : Sizes) (before tag : List ℕ) (fit : fieldsFit z before ≡ true) (on : goesOn before tag ≡ true) where
-  high : (k : ℕ) → k < 8 → getD tag (8 + k) 0 ≡ getD before (8 + k) 0
-  unfolding goesOn
-  high k h = sym (sym (getD-part before 8 8 k h) ∙ (ap (λ (l : List ℕ). getD l k 0) (same-equal _ _ (every-at _ on 0)) ∙ getD-part tag 8 8 k h))
+  pub write-fits : kind tag ≡ writeKind → kindFits z tag ≡ true
+  unfolding kindFits within
+  write-fits e = rw e
 
-  low : (k : ℕ) → k < 4 → getD tag (4 + k) 0 ≡ getD before (4 + k) 0
-  unfolding goesOn
-  low k h = sym (sym (getD-part before 4 4 k h) ∙ (ap (λ (l : List ℕ). getD l k 0) (same-equal _ _ (every-at _ on 1)) ∙ getD-part tag 4 4 k h))
+  -- a bucket's first page
+  pub first-test : 1 ≤ z .s
+      → (leb 1 (epoch tag) && ltb (back tag) (z .b) && zeros tag && eqb (ordinal tag) 0 && (logFits z tag && kindFits z tag))
+      ≡ (fieldsFit z tag && eqb (ordinal tag) 0)
+  unfolding kindFits spansBucket
+  first-test some = grouped-first _ _ _ _ _ _ ∙ same-truth _ _ tested told
+    where
+      tests : List Bool
+      tests = leb 1 (epoch tag) ∷ ltb (back tag) (z .b) ∷ zeros tag ∷ eqb (ordinal tag) 0 ∷ logFits z tag ∷ kindFits z tag ∷ []
 
-  goes : Follows before tag
-  unfolding goesOn kind epoch back offset extent four two
-  goes = record {
-    before-used = fields-used z before fit;
-    kind-same = eqb-true _ _ (every-at _ on 5);
-    epoch-same = rw (low 0 (omega arith), low 1 (omega arith), low 2 (omega arith), low 3 (omega arith));
-    back-same = rw (high 0 (omega arith), high 1 (omega arith));
-    goes = goes-on (eqb-true _ _ (every-at _ on 2)) (eqb-true _ _ (every-at _ on 3))
-        (rw (high 4 (omega arith), high 5 (omega arith))) (rw (high 6 (omega arith), high 7 (omega arith)));
-  }
+      whole : (eqb (kind tag) writeKind || (eqb (offset tag) 0 && eqb (extent tag) (bucketSize z))) ≡ true
+          → (kind tag ≡ writeKind) ⊎ ((offset tag ≡ 0) × (extent tag ≡ bucketSize z))
+      whole h = ⊎-elim
+          (λ e. inl (eqb-true _ _ e))
+          (λ e. inr (eqb-true _ _ (and-left (eqb (offset tag) 0) _ e), eqb-true _ _ (and-right (eqb (offset tag) 0) _ e)))
+          (or-cases (eqb (kind tag) writeKind) _ h)
 
-  zeros-same : zeros tag ≡ zeros before
-  unfolding goesOn zeros
-  zeros-same = let e : getD tag 3 0 ≡ getD before 3 0 = eqb-true _ _ (every-at _ on 6) in rw (e, high 2 (omega arith), high 3 (omega arith))
+      tested : every tests ≡ true → (fieldsFit z tag && eqb (ordinal tag) 0) ≡ true
+      tested h =
+          let t = every-at tests h in
+          and-true (fields-test z tag (record {
+            kind-low = within-low 1 3 (kind tag) (and-left _ _ (t 5));
+            kind-high = within-high 1 3 (kind tag) (and-left _ _ (t 5));
+            epoch-low = leb-true _ _ (t 0);
+            back-below = ltb-true _ _ (t 1);
+            zeros-are = t 2;
+            pages-are = pages-told (t 4);
+            bytes-inside = bytes-told (t 4);
+            ordinal-below = ordinal-told (t 4) some (eqb-true _ _ (t 3));
+            whole = whole (and-right (within 1 3 (kind tag)) _ (t 5));
+          })) (t 3)
 
-  pub goes-on-fits : (fieldsFit z tag && follows before tag) ≡ true
-  unfolding goesOn
-  goes-on-fits =
-      let f = follows-test before tag goes in
-      let later : eqb (ordinal tag) 0 ≡ false = ne-eqb (ordinal tag) 0 (λ e. omega (arith, eqb-true (ordinal tag) (ordinal before + 1) (every-at _ on 2))) in
-      sym (continued z before tag fit later)
-      ∙ and-true (and-true (zeros-same ∙ fields-of z before fit .zeros-are) (every-at _ on 4)) f
+      told : (fieldsFit z tag && eqb (ordinal tag) 0) ≡ true → every tests ≡ true
+      told h =
+          let f = fields-of z tag (and-left _ _ h) in
+          every-more _ _ (le-leb _ _ (f .epoch-low))
+          (every-more _ _ (lt-ltb _ _ (f .back-below))
+          (every-more _ _ (f .zeros-are)
+          (every-more _ _ (and-right (fieldsFit z tag) _ h)
+          (every-more _ _ (log-tested f)
+          (every-more _ _ (kind-tested f) every-none)))))
 
 module _ (z : Sizes) (d : Device) (c : ℕ) where
   -- the rules for page k, by where it stands
-  pub first-page : (k : ℕ) → k ≡ 0 → fitsAt z d c k ≡ (fieldsFit z (tagOf z d c k) && eqb (ordinal (tagOf z d c k)) 0)
+  pub first-page : fitsAt z d c 0 ≡ (fieldsFit z (tagOf z d c 0) && eqb (ordinal (tagOf z d c 0)) 0)
   unfolding fitsAt
-  first-page zero e = refl
-  first-page (suc k) e = cc
+  first-page = refl
 
   pub later-page : (k : ℕ) → (k ≡ 0 → ⊥) → fitsAt z d c k ≡ (fieldsFit z (tagOf z d c k) && follows (tagOf z d c (k - 1)) (tagOf z d c k))
   unfolding fitsAt

@@ -1,27 +1,44 @@
 -- The pages of a bucket, and the buckets of a chip, as the test goes through them.
 use Prim.Native.Nat.{ℕ, zero, suc, _+_, _≤_, _<_}
 use mathlib.Core.Path.{_≡_}
-use mathlib.Core.Bool.{Bool, true, false, _&&_}
+use mathlib.Core.Bool.{Bool, true, false, _&&_, _||_}
 use mathlib.Core.List.{List, [], _∷_}
 use lib.ListN.{getD}
-use lib.Dec.{ltb, eqb}
-use Rattle.lists.specs.Lists.{every, allBelow, part, same}
+use lib.Dec.{leb, ltb, eqb}
+use Rattle.lists.specs.Lists.{if_then_else_, every, within, allBelow, part, same}
 use Rattle.model.specs.declared.Sizes.{Sizes}
-use Rattle.model.specs.Sizes.{Device, body}
-use Rattle.model.specs.Spare.{kind, ordinal, pages}
+use Rattle.model.specs.Sizes.{Device, bucketSize, body, pagesFor}
+use Rattle.model.specs.Spare.{writeKind, kind, ordinal, pages, offset, extent}
 use Rattle.model.specs.Stores.{tagOf}
-use Rattle.model.specs.Image.{follows, fieldsFit, bucketFits, headTag}
+use Rattle.model.specs.Image.{follows, spansBucket, fieldsFit, bucketFits, headTag}
 
--- a page has the bytes of the page before it but for the ordinal, which is one higher and below the page count
-unfoldable pub goesOn : List ℕ → List ℕ → Bool
-goesOn before tag = every
-    (same (part before 8 8) (part tag 8 8)
-    ∷ same (part before 4 4) (part tag 4 4)
-    ∷ eqb (ordinal tag) (ordinal before + 1)
-    ∷ eqb (pages tag) (pages before)
-    ∷ ltb (ordinal tag) (pages tag)
+module _ (z : Sizes) where
+  -- the log of a page has the pages that it takes, and lies within the bucket
+  unfoldable pub logFits : List ℕ → Bool
+  logFits tag = eqb (pages tag) (pagesFor z (extent tag)) && leb (offset tag + extent tag) (bucketSize z)
+
+  -- the kind is one of the three, and suits the log
+  unfoldable pub kindFits : List ℕ → Bool
+  kindFits tag = within 1 3 (kind tag) && (eqb (kind tag) writeKind || spansBucket z tag)
+
+-- a page has the kind, epoch, back-end bucket and zero bytes of the page before it
+unfoldable pub sameBucket : List ℕ → List ℕ → Bool
+sameBucket before tag = every
+    (same (part before 4 8) (part tag 4 8)
     ∷ eqb (kind tag) (kind before)
     ∷ eqb (getD tag 3 0) (getD before 3 0) ∷ [])
+
+-- a page continues the log of the page before it, and that log has so many pages
+unfoldable pub goesOn : List ℕ → List ℕ → Bool
+goesOn before tag = every
+    (eqb (ordinal tag) (ordinal before + 1)
+    ∷ eqb (pages tag) (pages before)
+    ∷ ltb (ordinal tag) (pages tag)
+    ∷ same (part before 12 4) (part tag 12 4) ∷ [])
+
+-- a page of the bucket of the page before it starts a log, or continues one
+unfoldable pub logGoes : Sizes → List ℕ → List ℕ → Bool
+logGoes z before tag = if eqb (ordinal tag) 0 then logFits z tag && eqb (kind tag) writeKind else goesOn before tag
 
 module _ (z : Sizes) (d : Device) where
   -- page k of the bucket c is programmed and fits

@@ -9,30 +9,90 @@ ghost use Prim.Native.Nat.{ℕ, _+_, _-_, _%_, _≤_, _<_};
 ghost use lib.ListN.{length};
 ghost use lib.Dec.{eqb};
 ghost use Rattle.lists.specs.Lists.{allBelow, times, distinct, keep, below};
-ghost use Rattle.model.specs.Sizes.{body};
-ghost use Rattle.model.specs.Spare.{blank, zeros};
-ghost use Rattle.model.specs.Stores.{tagOf};
-ghost use Rattle.model.specs.Image.{continues, follows, fieldsFit, bucketFits, used, epochOf, wellFormed};
+ghost use Rattle.model.specs.Sizes.{body, pagesFor};
+ghost use Rattle.model.specs.Spare.{writeKind, kind, ordinal, zeros};
+ghost use Rattle.model.specs.Image.{follows, fieldsFit, bucketFits, used, epochOf, wellFormed};
 ghost use Rattle.model.proofs.Limits.{Limits};
 ghost use Rattle.spare.specs.Fields.{fields};
 ghost use Rattle.image.specs.Chip.{Chip, spareOnly};
-ghost use Rattle.rules.specs.Pages.{fitsAt, Fitting, Stops, goesOn, fitsFrom, NoKinds, Span};
+ghost use Rattle.rules.specs.Pages.{logFits, kindFits, sameBucket, goesOn, logGoes, fitsAt, Fitting, Stops, fitsFrom, NoKinds, Span};
 ghost use Rattle.rules.specs.Slots.{Tells};
 
-// The rules for one programmed page.
-fn fields_fit(z: Sizes, f: Fields, zeroed: bool) -> bool
+// Whether a log takes so many pages: they hold its bytes, and one page less would not. This takes no division.
+fn takes(z: Sizes, last: u16, pages: u8) -> bool
     requires { ⌜ Limits z ⌝ }
-    ensures { λ r. ⌜ ((tag : List ℕ) → fields tag ≡ f → zeros tag ≡ zeroed → r ≡ fieldsFit z tag) ⌝ }
+    ensures { λ r. ⌜ r ≡ eqb pages (pagesFor z (last + 1)) ⌝ }
 {
-    let offset = f.offset as usize;
-    let extent = f.last as usize + 1;
-    let bucket = z.p * z.s;
-    let kind = (1 <= f.kind) & (f.kind <= 3);
+    let extent = last as usize + 1;
+    let room = pages as usize * z.s;
+    (extent <= room) & (room < extent + z.s)
+}
+
+// Whether the log of a page has the pages that it takes, and lies within the bucket.
+fn log_fits(z: Sizes, f: Fields) -> bool
+    requires { ⌜ Limits z ⌝ }
+    ensures { λ r. ⌜ ((tag : List ℕ) → fields tag ≡ f → r ≡ logFits z tag) ⌝ }
+{
+    if !takes(z, f.last, f.pages) {
+        return false;
+    }
+    f.offset as usize + (f.last as usize + 1) <= z.p * z.s
+}
+
+// Whether the kind is one of the three, and suits the log: only in a Write bucket may a log be less than the bucket.
+fn kind_fits(z: Sizes, f: Fields) -> bool
+    requires { ⌜ Limits z ⌝ }
+    ensures { λ r. ⌜ ((tag : List ℕ) → fields tag ≡ f → r ≡ kindFits z tag) ⌝ }
+{
+    if f.kind == 2 {
+        return true;
+    }
+    let spans = (f.offset == 0) & (f.last as usize + 1 == z.p * z.s);
+    (1 <= f.kind) & (f.kind <= 3) & spans
+}
+
+// Whether a page starts a log that fits.
+fn starts(z: Sizes, f: Fields) -> bool
+    requires { ⌜ Limits z ⌝ }
+    ensures { λ r. ⌜ ((tag : List ℕ) → fields tag ≡ f → r ≡ (logFits z tag && kindFits z tag)) ⌝ }
+{
+    if !log_fits(z, f) {
+        return false;
+    }
+    kind_fits(z, f)
+}
+
+// The rules for the first page of a bucket.
+fn first_fits(z: Sizes, f: Fields, zeroed: bool) -> bool
+    requires { ⌜ Limits z ⌝ }
+    ensures { λ r. ⌜ ((tag : List ℕ) → fields tag ≡ f → zeros tag ≡ zeroed → r ≡ (fieldsFit z tag && eqb (ordinal tag) 0)) ⌝ }
+{
     let place = (1 <= f.epoch) & ((f.back as usize) < z.b);
-    let pages = f.pages as usize == (extent + z.s - 1) / z.s;
-    let log = pages & (offset + extent <= bucket) & (f.ordinal < f.pages);
-    let spans = (offset == 0) & (extent == bucket);
-    kind & place & zeroed & log & ((f.kind == 2) | spans)
+    if !(place & zeroed & (f.ordinal == 0)) {
+        return false;
+    }
+    starts(z, f)
+}
+
+fn first_fits_at(z: Sizes, c: usize, spare: &[u8]) -> bool
+    requires { ⌜ Chip z (now spare) ⌝ }
+    requires { ⌜ c < z .c ⌝ }
+    ensures { λ r. ⌜ r ≡ fitsAt z (spareOnly (now (spare .entry))) c 0 ⌝ }
+{
+    let page = c * z.p;
+    let f = spare::fields_at(spare, page);
+    let zeroed = spare::zeroed(spare, page);
+    first_fits(z, f, zeroed)
+}
+
+// Whether a page has the kind, epoch, back-end bucket and zero bytes of the page before it: those that fit there need no other test.
+fn same_bucket(before: &[u8], page: &[u8]) -> bool
+    requires { ⌜ length (now before) ≡ 16 ⌝ }
+    requires { ⌜ length (now page) ≡ 16 ⌝ }
+    ensures { λ r. ⌜ r ≡ sameBucket (now (before .entry)) (now (page .entry)) ⌝ }
+{
+    let place = spare::equal(&before[4..12], &page[4..12]);
+    place & (page[0] == before[0]) & (page[3] == before[3])
 }
 
 fn is_next(before: u8, ordinal: u8) -> bool
@@ -41,113 +101,82 @@ fn is_next(before: u8, ordinal: u8) -> bool
     ordinal as usize == before as usize + 1
 }
 
-// Whether a page continues the log of the page before it.
-fn continues(before: Fields, f: Fields) -> bool
-    ensures { λ r. ⌜ ((b tag : List ℕ) → fields b ≡ before → fields tag ≡ f → r ≡ continues b tag) ⌝ }
-{
-    let next = is_next(before.ordinal, f.ordinal);
-    let log = (f.pages == before.pages) & (f.offset == before.offset);
-    next & log & (f.last == before.last)
-}
-
-// Whether a page may follow the programmed page before it.
-fn follows(before: Fields, f: Fields) -> bool
-    ensures { λ r. ⌜ ((b tag : List ℕ) → blank b ≡ false → fields b ≡ before → fields tag ≡ f → r ≡ follows b tag) ⌝ }
-{
-    let bucket = (f.kind == before.kind) & (f.epoch == before.epoch) & (f.back == before.back);
-    if f.ordinal == 0 {
-        return bucket & (f.kind == 2);
-    }
-    bucket & continues(before, f)
-}
-
-// The rules for a page behind another that fits. One that continues a log shares its fields with that page, and they are not tested again.
-fn later_fits(z: Sizes, before: Fields, f: Fields, zeroed: bool) -> bool
-    requires { ⌜ Limits z ⌝ }
-    ensures { λ r. ⌜ ((b tag : List ℕ) → blank b ≡ false → fieldsFit z b ≡ true → fields b ≡ before → fields tag ≡ f → zeros tag ≡ zeroed → r ≡ (fieldsFit z tag && follows b tag)) ⌝ }
-{
-    let follow = follows(before, f);
-    if f.ordinal == 0 {
-        return fields_fit(z, f, zeroed) & follow;
-    }
-    zeroed & (f.ordinal < f.pages) & follow
-}
-
-// The rules for a page with a kind, behind pages that fit.
-fn programmed_fits(z: Sizes, c: usize, k: usize, spare: &[u8]) -> bool
-    requires { ⌜ Chip z (now spare) ⌝ }
-    requires { ⌜ c < z .c ⌝ }
-    requires { ⌜ k < z .p ⌝ }
-    requires { ⌜ Fitting z (spareOnly (now spare)) c k ⌝ }
-    ensures { λ r. ⌜ r ≡ fitsAt z (spareOnly (now (spare .entry))) c k ⌝ }
-{
-    let page = c * z.p + k;
-    let f = spare::fields_at(spare, page);
-    let zeroed = spare::zeroed(spare, page);
-    if k == 0 {
-        return fields_fit(z, f, zeroed) & (f.ordinal == 0);
-    }
-    let before = spare::fields_at(spare, page - 1);
-    later_fits(z, before, f, zeroed)
-}
-
-// Whether page k is programmed and fits, behind pages that do. An erased page has no kind, and needs no rule.
-fn page_fits(z: Sizes, c: usize, k: usize, spare: &[u8]) -> bool
-    requires { ⌜ Chip z (now spare) ⌝ }
-    requires { ⌜ c < z .c ⌝ }
-    requires { ⌜ k < z .p ⌝ }
-    requires { ⌜ Fitting z (spareOnly (now spare)) c k ⌝ }
-    ensures { λ r. ⌜ r ≡ fitsAt z (spareOnly (now (spare .entry))) c k ⌝ }
-{
-    if spare::kind_at(spare, c * z.p + k) == 255 {
-        return false;
-    }
-    programmed_fits(z, c, k, spare)
-}
-
-// Whether a page has the bytes of the page before it but for the ordinal, which is one higher and below the page count.
+// Whether a page continues the log of the page before it, and that log has so many pages.
 fn goes_on(before: &[u8], page: &[u8]) -> bool
     requires { ⌜ length (now before) ≡ 16 ⌝ }
     requires { ⌜ length (now page) ≡ 16 ⌝ }
     ensures { λ r. ⌜ r ≡ goesOn (now (before .entry)) (now (page .entry)) ⌝ }
 {
-    if !spare::equal(&before[8..16], &page[8..16]) {
-        return false;
-    }
-    let epoch = spare::equal(&before[4..8], &page[4..8]);
     let next = is_next(before[1], page[1]);
     let log = (page[2] == before[2]) & (page[1] < page[2]);
-    epoch & next & log & (page[0] == before[0]) & (page[3] == before[3])
+    next & log & spare::equal(&before[12..16], &page[12..16])
 }
 
-fn goes_on_at(z: Sizes, c: usize, k: usize, spare: &[u8]) -> bool
+// Whether a page starts a log in a Write bucket.
+fn starts_write(z: Sizes, page: &[u8]) -> bool
+    requires { ⌜ Limits z ⌝ }
+    requires { ⌜ length (now page) ≡ 16 ⌝ }
+    ensures { λ r. ⌜ r ≡ (logFits z (now (page .entry)) && eqb (kind (now (page .entry))) writeKind) ⌝ }
+{
+    let f = spare::fields_at(page, 0);
+    log_fits(z, f) & (f.kind == 2)
+}
+
+// The rules for a page of the bucket of the page before it: it starts a log, or continues one.
+fn log_goes(z: Sizes, before: &[u8], page: &[u8]) -> bool
+    requires { ⌜ Limits z ⌝ }
+    requires { ⌜ length (now before) ≡ 16 ⌝ }
+    requires { ⌜ length (now page) ≡ 16 ⌝ }
+    ensures { λ r. ⌜ r ≡ logGoes z (now (before .entry)) (now (page .entry)) ⌝ }
+{
+    if page[1] == 0 {
+        return starts_write(z, page);
+    }
+    goes_on(before, page)
+}
+
+// The rules for a page behind one that fits.
+fn later_fits(z: Sizes, before: &[u8], page: &[u8]) -> bool
+    requires { ⌜ Limits z ⌝ }
+    requires { ⌜ length (now before) ≡ 16 ⌝ }
+    requires { ⌜ length (now page) ≡ 16 ⌝ }
+    requires { ⌜ fieldsFit z (now before) ≡ true ⌝ }
+    ensures { λ r. ⌜ r ≡ (fieldsFit z (now (page .entry)) && follows (now (before .entry)) (now (page .entry))) ⌝ }
+{
+    if !same_bucket(before, page) {
+        return false;
+    }
+    log_goes(z, before, page)
+}
+
+fn later_fits_at(z: Sizes, c: usize, k: usize, spare: &[u8]) -> bool
     requires { ⌜ Chip z (now spare) ⌝ }
     requires { ⌜ c < z .c ⌝ }
     requires { ⌜ (1 ≤ k) × (k < z .p) ⌝ }
-    ensures { λ r. ⌜ r ≡ goesOn (tagOf z (spareOnly (now (spare .entry))) c (k - 1)) (tagOf z (spareOnly (now (spare .entry))) c k) ⌝ }
+    requires { ⌜ Fitting z (spareOnly (now spare)) c k ⌝ }
+    ensures { λ r. ⌜ r ≡ fitsAt z (spareOnly (now (spare .entry))) c k ⌝ }
 {
     let start = (c * z.p + k) * 16;
     let before = start - 16;
     let end = start + 16;
-    goes_on(&spare[before..start], &spare[start..end])
+    later_fits(z, &spare[before..start], &spare[start..end])
 }
 
-// The first page from k on that does not go on like the page before it: those up to it fit, and no rule is tested on them.
-fn run_end(z: Sizes, c: usize, k: usize, spare: &[u8]) -> usize
+// How many pages fit, from the first on, which does.
+fn fitting_from(z: Sizes, c: usize, spare: &[u8]) -> usize
     requires { ⌜ Chip z (now spare) ⌝ }
     requires { ⌜ c < z .c ⌝ }
-    requires { ⌜ 1 ≤ k ⌝ }
-    requires { ⌜ Fitting z (spareOnly (now spare)) c k ⌝ }
-    ensures { λ r. ⌜ (k ≤ r) × Fitting z (spareOnly (now (spare .entry))) c r ⌝ }
+    requires { ⌜ Fitting z (spareOnly (now spare)) c 1 ⌝ }
+    ensures { λ r. ⌜ Stops z (spareOnly (now (spare .entry))) c r ⌝ }
 {
-    let mut e = k;
-    while e < z.p {
-        if !goes_on_at(z, c, e, spare) {
-            return e;
+    let mut k = 1;
+    while k < z.p {
+        if !later_fits_at(z, c, k, spare) {
+            return k;
         }
-        e += 1;
+        k += 1;
     }
-    e
+    k
 }
 
 // How many pages from the first on are programmed and fit.
@@ -156,14 +185,10 @@ fn fitting(z: Sizes, c: usize, spare: &[u8]) -> usize
     requires { ⌜ c < z .c ⌝ }
     ensures { λ r. ⌜ Stops z (spareOnly (now (spare .entry))) c r ⌝ }
 {
-    let mut k = 0;
-    while k < z.p {
-        if !page_fits(z, c, k, spare) {
-            return k;
-        }
-        k = run_end(z, c, k + 1, spare);
+    if !first_fits_at(z, c, spare) {
+        return 0;
     }
-    k
+    fitting_from(z, c, spare)
 }
 
 // Blank pages come only at the end.
