@@ -1,5 +1,6 @@
 // Number 4: whether the image of a chip is well formed, made by the page rules.
-// A rule for a page is tested on its fields: its contract holds of all spare bytes that say these fields.
+// The first page of a bucket is tested on its fields: a contract holds of all spare bytes that say these fields.
+// A later page is compared with the page before it, which fits: bytes that are the same say fields that fit too.
 use model::Sizes;
 use spare::Fields;
 ghost use mathlib.Core.Path.{_≡_};
@@ -18,7 +19,7 @@ ghost use Rattle.image.specs.Chip.{Chip, spareOnly};
 ghost use Rattle.rules.specs.Pages.{logFits, kindFits, sameBucket, goesOn, logGoes, fitsAt, Fitting, Stops, fitsFrom, NoKinds, Span};
 ghost use Rattle.rules.specs.Slots.{Tells};
 
-// Whether a log takes so many pages: they hold its bytes, and one page less would not. This takes no division.
+// Whether a log takes so many pages: they hold its bytes, and one page less would not. No division is made: it takes long.
 fn takes(z: Sizes, last: u16, pages: u8) -> bool
     requires { ⌜ Limits z ⌝ }
     ensures { λ r. ⌜ r ≡ eqb pages (pagesFor z (last + 1)) ⌝ }
@@ -85,7 +86,7 @@ fn first_fits_at(z: Sizes, c: usize, spare: &[u8]) -> bool
     first_fits(z, f, zeroed)
 }
 
-// Whether a page has the kind, epoch, back-end bucket and zero bytes of the page before it: those that fit there need no other test.
+// Whether a page has the kind, epoch, back-end bucket and zero bytes of the page before it. They fit there, and need no other test.
 fn same_bucket(before: &[u8], page: &[u8]) -> bool
     requires { ⌜ length (now before) ≡ 16 ⌝ }
     requires { ⌜ length (now page) ≡ 16 ⌝ }
