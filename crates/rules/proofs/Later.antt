@@ -67,7 +67,7 @@ module _ (z : Sizes) (some : 1 ≤ z .s) (before tag : List ℕ) (fit : fieldsFi
 
     same-zeros : zeros tag ≡ zeros before
     unfolding sameBucket zeros
-    same-zeros = let e : getD tag 3 0 ≡ getD before 3 0 = eqb-true _ _ (every-at _ bucket 2) in rw (e, place 6 (omega arith), place 7 (omega arith))
+    same-zeros = let e : getD tag 3 0 ≡ getD before 3 0 = eqb-true _ _ (every-at _ bucket 2) ∙ sym (zero-byte before (r .zeros-are) 0) in rw (e, place 6 (omega arith), place 7 (omega arith))
 
     tested : (pages tag ≡ pagesFor z (extent tag)) → (offset tag + extent tag ≤ bucketSize z) → (ordinal tag < pages tag)
         → (kind tag ≡ writeKind) ⊎ ((offset tag ≡ 0) × (extent tag ≡ bucketSize z)) → Goes before tag → (fieldsFit z tag && follows before tag) ≡ true
@@ -157,7 +157,7 @@ module _ (z : Sizes) (some : 1 ≤ z .s) (before tag : List ℕ) (fit : fieldsFi
     bucket-told =
         every-more _ _ (parts-same before tag 4 8 (omega arith) (omega arith) place-told)
         (every-more _ _ (eq-eqb _ _ (w .kind-same))
-        (every-more _ _ (eq-eqb _ _ (zero-byte tag (f .zeros-are) 0 ∙ sym (zero-byte before (r .zeros-are) 0))) every-none))
+        (every-more _ _ (eq-eqb _ _ (zero-byte tag (f .zeros-are) 0)) every-none))
 
     goes-told : Goes before tag → logGoes z before tag ≡ true
     unfolding logGoes goesOn

@@ -26,7 +26,7 @@ unfoldable pub sameBucket : List ℕ → List ℕ → Bool
 sameBucket before tag = every
     (same (part before 4 8) (part tag 4 8)
     ∷ eqb (kind tag) (kind before)
-    ∷ eqb (getD tag 3 0) (getD before 3 0) ∷ [])
+    ∷ eqb (getD tag 3 0) 0 ∷ [])
 
 -- a page continues the log of the page before it, and that log has so many pages
 unfoldable pub goesOn : List ℕ → List ℕ → Bool

@@ -93,7 +93,7 @@ fn same_bucket(before: &[u8], page: &[u8]) -> bool
     ensures { λ r. ⌜ r ≡ sameBucket (now (before .entry)) (now (page .entry)) ⌝ }
 {
     let place = spare::equal(&before[4..12], &page[4..12]);
-    place & (page[0] == before[0]) & (page[3] == before[3])
+    place & (page[0] == before[0]) & (page[3] == 0)
 }
 
 fn is_next(before: u8, ordinal: u8) -> bool

@@ -38,13 +38,10 @@ shared-slice-read-result-2 c = search needs
 shared-slice-read-result-3 : tie.Need-shared-slice-read-result-3
 shared-slice-read-result-3 c = search needs
 
-shared-slice-read-result-4 : tie.Need-shared-slice-read-result-4
-shared-slice-read-result-4 c = search needs
-
 returns : tie.Need-returns
 unfolding sameBucket every part kind
-returns c = let a = c .before .before .before .before .before .before .before .before .before .args in let b = a .before .now in let p = a .page .now in
-    rw (c .before .before .before .before .equal .ensures) (grouped-three (same (part b 4 8) (part p 4 8)) (eqb (kind p) (kind b)) (eqb (getD p 3 0) (getD b 3 0)))
+returns c = let a = c .before .before .before .before .before .before .before .before .args in let b = a .before .now in let p = a .page .now in
+    rw (c .before .before .before .equal .ensures) (grouped-three (same (part b 4 8) (part p 4 8)) (eqb (kind p) (kind b)) (eqb (getD p 3 0) 0))
 
 pub same-bucket-spec : {M : Type 1} → statement M
 same-bucket-spec =
@@ -60,5 +57,4 @@ same-bucket-spec =
     shared-slice-read-result
     shared-slice-read-result-2
     shared-slice-read-result-3
-    shared-slice-read-result-4
     returns)
