@@ -2,7 +2,7 @@
 use Prim.Native.Nat.{ℕ, _+_, _≤_, _<_}
 use mathlib.Core.Path.{_≡_, refl, sym, ap, _∙_}
 use mathlib.Core.Bool.{true}
-use mathlib.Core.List.{List, [], _∷_, _++_}
+use mathlib.Core.List.{List}
 use native.Mathlib.Omega.{arith}
 use lib.ListN.{length}
 use Rattle.lists.specs.Lists.{row, keep, below, member, concatMap}
@@ -10,7 +10,7 @@ use Rattle.lists.proofs.Rows.{concat-more}
 use Rattle.model.specs.declared.Sizes.{Sizes}
 use Rattle.model.specs.Sizes.{Device, diskSize}
 use Rattle.model.specs.Stores.{Store, diskBytes}
-use Rattle.model.specs.Recover.{isDroppedWrite, isRescued, rescued, rescueStores}
+use Rattle.model.specs.Recover.{isRescued, rescued, rescueStores}
 use Rattle.geometry.specs.Geometry.{device}
 use Rattle.geometry.proofs.Passed.{lengths-of}
 use Rattle.image.specs.Chip.{spareOnly}
@@ -23,37 +23,30 @@ use Rattle.order.specs.Order.{nextOf}
 use Rattle.lists.proofs.Filters.{take-more}
 use Rattle.order.proofs.Next.{next, next-passes, next-kept}
 use Rattle.classes.specs.Columns.{column}
-use Rattle.rescue.specs.Beside.{isUnsaved}
+use Rattle.rescue.specs.Beside.{isUnwritten}
 use Rattle.rescue.proofs.Standing.{rescued-stands}
 use Rattle.rescue.proofs.Bytes.{same-rescued, rescued-size, stores-same}
 
--- the next of two lists
-pub next-both : (from best : ℕ) (l m : List ℕ) → nextOf from (nextOf from best l) m ≡ nextOf from best (l ++ m)
-unfolding nextOf
-next-both from best [] m = refl
-next-both from best (x ∷ l) m = next-both from _ l m
-
--- from each rescued one to the next, by the columns of the flushed and of the unsaved
-module _ {z : Sizes} {flash spare : List ℕ} (readable : Readable z flash spare) (disk : List ℕ) {flushed unsaved : List ℕ}
-    (flushed-are : flushed ≡ column z (spareOnly spare) (isDroppedWrite z (spareOnly spare))) (unsaved-are : unsaved ≡ column z (spareOnly spare) (isUnsaved z (spareOnly spare)))
-    (from : ℕ) {r : ℕ} (e : r ≡ nextOf from (z .b) (flushed ++ unsaved)) where
+-- from each rescued one to the next, by the column of what is to be written
+module _ {z : Sizes} {flash spare : List ℕ} (readable : Readable z flash spare) (disk : List ℕ) {unwritten : List ℕ}
+    (unwritten-are : unwritten ≡ column z (spareOnly spare) (isUnwritten z (spareOnly spare))) (from : ℕ) {r : ℕ} (e : r ≡ nextOf from (z .b) unwritten) where
   abbrev d : Device
   d = device flash spare disk
 
-  same : (x : ℕ) → x < z .b → isRescued z d x ≡ member x (flushed ++ unsaved)
-  same x h = sym (same-rescued z d x) ∙ rescued-stands z (spareOnly spare) x (omega (arith, readable .limits .b-high)) ∙ rw (flushed-are, unsaved-are)
+  same : (x : ℕ) → x < z .b → isRescued z d x ≡ member x unwritten
+  same x h = sym (same-rescued z d x) ∙ rescued-stands z (spareOnly spare) x (omega (arith, readable .limits .b-high)) ∙ rw unwritten-are
 
   pub next-high : r ≤ z .b
-  next-high = rw e (next from (z .b) (flushed ++ unsaved) .high)
+  next-high = rw e (next from (z .b) unwritten .high)
 
   pub next-low : from ≤ z .b → from ≤ r
-  next-low h = rw e (next from (z .b) (flushed ++ unsaved) .low h)
+  next-low h = rw e (next from (z .b) unwritten .low h)
 
   pub next-rescued : r < z .b → isRescued z d r ≡ true
-  next-rescued h = rw e (next-passes (isRescued z d) (flushed ++ unsaved) (z .b) same from (rw e at h))
+  next-rescued h = rw e (next-passes (isRescued z d) unwritten (z .b) same from (rw e at h))
 
   pub none-between : from ≤ z .b → keep (isRescued z d) (below r) ≡ keep (isRescued z d) (below from)
-  none-between h = rw e (next-kept (isRescued z d) (flushed ++ unsaved) (z .b) same from h)
+  none-between h = rw e (next-kept (isRescued z d) unwritten (z .b) same from h)
 
 module _ (z : Sizes) (flash spare disk : List ℕ) (m : Meter) where
   abbrev entry : Device

@@ -1,21 +1,23 @@
 -- What it says of a back-end bucket that it stands in a column, and which buckets it stands beside.
 use Prim.Native.Nat.{ℕ, zero, suc, _≤_, _<_}
 use mathlib.Core.Path.{_≡_, refl, sym, ap, _∙_}
-use mathlib.Core.Bool.{Bool, true, false, _&&_, _||_, or-assoc, true≢false}
-use mathlib.Core.List.{List, [], _∷_, _++_, map}
+use mathlib.Core.Logic.{_⊎_, inl, inr}
+use mathlib.Core.Bool.{Bool, true, false, _||_, true≢false}
+use mathlib.Core.List.{List, [], _∷_, map}
 use native.Mathlib.Omega.{arith}
 use lib.Dec.{eqb}
 use lib.ListN.{length, getD, length-map}
 use borrow.Author.Tests.{lt-ltb, eq-eqb, eqb-true}
 use Rattle.lists.specs.Lists.{if_then_else_, all, any, keep, below, head, empty, member, times}
-use Rattle.lists.proofs.Tests.{and-left, and-right, and-true, same-truth}
+use Rattle.lists.proofs.Tests.{and-left, and-right, and-true, or-left, or-second, or-cases, same-truth}
 use Rattle.lists.proofs.Rows.{length-row}
 use Rattle.lists.proofs.Counts.{in-all, times-rest, times-self, empty-times}
 use Rattle.lists.proofs.Orders.{any-in, in-any, kept-in, in-kept, length-sort}
 use Rattle.lists.proofs.Arrays.{keep-length}
 use Rattle.model.specs.declared.Sizes.{Sizes}
 use Rattle.model.specs.Sizes.{Device, body}
-use Rattle.model.specs.Image.{used, epochOf, backOf, isWrite, isDirty}
+use Rattle.model.specs.Spare.{writeKind, kind}
+use Rattle.model.specs.Image.{headTag, used, epochOf, backOf, isWrite, isDirty}
 use Rattle.model.specs.State.{isBelow}
 use Rattle.model.specs.Recover.{buckets, byEpoch, isWriteOf, isChosen, chosen, isDroppedWrite, flushed, isDroppedCopy, unsaved, isRescued}
 use Rattle.model.proofs.Limits.{Limits}
@@ -25,7 +27,7 @@ use Rattle.model.proofs.RecoverChoice.{chosen-of, chosen-test, dropped-write, f
 use Rattle.classes.specs.Columns.{nowhere, inOrder, named, column}
 use Rattle.classes.proofs.Orders.{filtered, in-order, from-order}
 use Rattle.classes.proofs.Columns.{isOf, named-is, member-column}
-use Rattle.rescue.specs.Beside.{beside, isUnsaved}
+use Rattle.rescue.specs.Beside.{beside, isUnwritten}
 
 pub head-in : (l : List ℕ) → empty l ≡ false → 1 ≤ times (head l) l
 head-in l h = omega (arith, times-rest (head l) l h, times-self (head l))
@@ -36,11 +38,6 @@ some-in x l h = go (empty l) refl
     go : (t : Bool) → empty l ≡ t → empty l ≡ false
     go true e = absurd (omega (arith, empty-times l e x))
     go false e = e
-
-member-both : (x : ℕ) (l m : List ℕ) → member x (l ++ m) ≡ member x l || member x m
-unfolding member any
-member-both x [] m = refl
-member-both x (y ∷ l) m = rw (member-both x l m) (sym (or-assoc (eqb x y) (member x l) (member x m)))
 
 getD-mapped : (f : ℕ → ℕ) (l : List ℕ) (i : ℕ) → i < length l → getD (map f l) i 0 ≡ f (getD l i 0)
 getD-mapped f [] i h = absurd (omega arith)
@@ -60,16 +57,19 @@ module _ (z : Sizes) (d : Device) where
   pub column-length : (t : ℕ → Bool) {order numbers : List ℕ} → order ≡ inOrder z d → numbers ≡ column z d t → length numbers ≡ length order
   column-length t e h = ap length h ∙ length-map (inOrder z d) (named z d t) ∙ sym (ap length e)
 
-  -- a place in the column of the dropped copies, if the copy is Dirty
-  pub unsaved-at : {order numbers : List ℕ} → order ≡ inOrder z d → numbers ≡ column z d (isDroppedCopy z d) → (i : ℕ) → i < length order
-      → (if isDirty z d (getD order i 0) then getD numbers i 0 else nowhere) ≡ named z d (isUnsaved z d) (getD order i 0)
-  unsaved-at {order} e h i k = rw (h, ← e, getD-mapped (named z d (isDroppedCopy z d)) order i k) (go (getD order i 0) (isDirty z d (getD order i 0)) (isDroppedCopy z d (getD order i 0)))
+  -- a place in the column of what is to be written
+  pub unwritten-at : {order writes copies : List ℕ} → order ≡ inOrder z d → writes ≡ column z d (isDroppedWrite z d) → copies ≡ column z d (isDroppedCopy z d) → (i : ℕ) → i < length order
+      → (if isDirty z d (getD order i 0) then getD copies i 0 else getD writes i 0) ≡ named z d (isUnwritten z d) (getD order i 0)
+  unwritten-at {order} e g h i k =
+      rw (g, h, ← e, getD-mapped (named z d (isDroppedWrite z d)) order i k, getD-mapped (named z d (isDroppedCopy z d)) order i k) (go (getD order i 0) (isDirty z d (getD order i 0)))
     where
-      go : (c : ℕ) (t u : Bool) → (if t then (if u then backOf z d c else nowhere) else nowhere) ≡ (if u && t then backOf z d c else nowhere)
-      go c true true = refl
-      go c true false = refl
-      go c false true = refl
-      go c false false = refl
+      go : (c : ℕ) (t : Bool) → (if t then named z d (isDroppedCopy z d) c else named z d (isDroppedWrite z d) c) ≡ (if (if t then isDroppedCopy z d c else isDroppedWrite z d c) then backOf z d c else nowhere)
+      go c true = refl
+      go c false = refl
+
+  write-clean : (c : ℕ) → isWrite z d c ≡ true → isDirty z d c ≡ false
+  unfolding isWrite isDirty
+  write-clean c h = rw (eqb-true (kind (headTag z d c)) writeKind (and-right (used z d c) _ h))
 
   -- ---- b stands in a column
 
@@ -94,23 +94,26 @@ module _ (z : Sizes) (d : Device) where
         to : flushed z d b ≡ true → member b (column z d (isDroppedWrite z d)) ≡ true
         to h = let w = flushed-by z d b h in stands (isDroppedWrite z d) b low (w .0) (w .1) (write-used z d (w .0) (dropped-write z d (w .0) (w .2) .0)) (w .2) (w .3)
 
-    unsaved-stands : member b (column z d (isUnsaved z d)) ≡ unsaved z d b
-    unsaved-stands = same-truth _ _ from to
-      where
-        from : member b (column z d (isUnsaved z d)) ≡ true → unsaved z d b ≡ true
-        from h =
-            let w = standing (isUnsaved z d) b low h in
-            rw (w .3) at (drop-saves z d (w .0) (in-order z d (w .0) (w .1) .1) (and-left (isDroppedCopy z d (w .0)) (isDirty z d (w .0)) (w .2)) (and-right (isDroppedCopy z d (w .0)) (isDirty z d (w .0)) (w .2)))
-
-        to : unsaved z d b ≡ true → member b (column z d (isUnsaved z d)) ≡ true
-        to h =
-            let w = unsaved-by z d b h in
-            stands (isUnsaved z d) b low (w .0) (w .1) (copy-used z d (w .0) (complete-copy z d (w .0) (dropped-copy z d (w .0) (w .2) .0 .is-complete))) (and-true (w .2) (w .3)) (w .4)
-
     -- b is rescued
-    pub rescued-stands : isRescued z d b ≡ member b (column z d (isDroppedWrite z d) ++ column z d (isUnsaved z d))
+    pub rescued-stands : isRescued z d b ≡ member b (column z d (isUnwritten z d))
     unfolding isRescued
-    rescued-stands = rw (← flushed-stands, ← unsaved-stands) (sym (member-both b (column z d (isDroppedWrite z d)) (column z d (isUnsaved z d))))
+    rescued-stands = same-truth _ _ (λ h. from (or-cases (flushed z d b) (unsaved z d b) h)) to
+      where
+        from : (flushed z d b ≡ true) ⊎ (unsaved z d b ≡ true) → member b (column z d (isUnwritten z d)) ≡ true
+        from (inl q) =
+            let w = flushed-by z d b q in
+            let write = dropped-write z d (w .0) (w .2) .0 in
+            stands (isUnwritten z d) b low (w .0) (w .1) (write-used z d (w .0) write) (rw (write-clean (w .0) write) (w .2)) (w .3)
+        from (inr q) =
+            let w = unsaved-by z d b q in
+            stands (isUnwritten z d) b low (w .0) (w .1) (copy-used z d (w .0) (complete-copy z d (w .0) (dropped-copy z d (w .0) (w .2) .0 .is-complete))) (rw (w .3) (w .2)) (w .4)
+
+        to : member b (column z d (isUnwritten z d)) ≡ true → flushed z d b || unsaved z d b ≡ true
+        to h = let w = standing (isUnwritten z d) b low h in rw (← w .3) (go (w .0) (in-order z d (w .0) (w .1) .1) (w .2) (isDirty z d (w .0)) refl)
+          where
+            go : (c : ℕ) → c < body z → isUnwritten z d c ≡ true → (t : Bool) → isDirty z d c ≡ t → flushed z d (backOf z d c) || unsaved z d (backOf z d c) ≡ true
+            go c inside u true e = or-second (flushed z d (backOf z d c)) (unsaved z d (backOf z d c)) (drop-saves z d c inside (rw e at u) e)
+            go c inside u false e = or-left (flushed z d (backOf z d c)) (unsaved z d (backOf z d c)) (drop-flushes z d c inside (rw e at u))
 
     -- ---- the buckets beside b
 

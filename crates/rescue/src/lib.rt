@@ -4,7 +4,7 @@ use meter::Meter;
 use model::Sizes;
 ghost use mathlib.Core.Path.{_≡_};
 ghost use mathlib.Core.Bool.{true};
-ghost use mathlib.Core.List.{List, _++_};
+ghost use mathlib.Core.List.{List};
 ghost use Prim.Native.Nat.{ℕ, _*_, _≤_, _<_};
 ghost use lib.Dec.{eqb};
 ghost use lib.ListN.{length, take, getD};
@@ -13,16 +13,18 @@ ghost use Rattle.model.specs.Sizes.{bucketSize, flashSize, diskSize, body};
 ghost use Rattle.model.specs.Stores.{diskBytes};
 ghost use Rattle.model.specs.Image.{isDirty, merge};
 ghost use Rattle.model.specs.State.{isBelow};
-ghost use Rattle.model.specs.Recover.{isDroppedCopy, mergeAll, isRescued, rescued, rescueStores, recover};
+ghost use Rattle.model.specs.Recover.{isDroppedWrite, isDroppedCopy, mergeAll, isRescued, rescued, rescueStores, recover};
 ghost use Rattle.model.proofs.Limits.{Limits};
 ghost use Rattle.geometry.specs.Geometry.{device, Lent};
 ghost use Rattle.image.specs.Chip.{Chip, spareOnly};
 ghost use Rattle.merge.specs.Window.{Turns, Readable, chip};
 ghost use Rattle.meter.specs.Run.{running, runAll};
-ghost use Rattle.order.specs.Order.{nextOf};
-ghost use Rattle.classes.specs.Columns.{nowhere, inOrder, column, Columns};
+ghost use Rattle.classes.specs.Columns.{inOrder, column, Columns};
 ghost use Rattle.rescue.specs.Sources.{Recoverable, Listed};
-ghost use Rattle.rescue.specs.Beside.{beside, isUnsaved};
+ghost use Rattle.rescue.specs.Beside.{beside, isUnwritten};
+
+// So many places of a column are compared with a number at once.
+const PART: usize = 16;
 
 // Whether the number stands in the column. With no way out of the loop it is compared with many at a time.
 fn occurs(x: u16, column: &[u16]) -> bool
@@ -86,8 +88,8 @@ fn lay_bucket(
     }
 }
 
-// Lays the logs of all its Write buckets, in the order.
-fn lay_logs(
+// Lays the logs of the Write buckets of b, place by place.
+fn lay_places(
     z: Sizes,
     b: u16,
     order: &[u8],
@@ -106,6 +108,59 @@ fn lay_logs(
         lay_bucket(z, b, place, order, writes, flash, spare, window);
         place += 1;
     }
+}
+
+// A part of the order that b does not stand beside is passed over.
+fn lay_part(
+    z: Sizes,
+    b: u16,
+    order: &[u8],
+    writes: &[u16],
+    flash: &[u8],
+    spare: &[u8],
+    window: &mut [u8],
+)
+    requires { ⌜ Readable z (now flash) (now spare) ⌝ }
+    requires { ⌜ (length (now writes) ≡ length (now order)) × (all (isBelow (body z)) (now order) ≡ true) ⌝ }
+    requires { ⌜ length (now window) ≤ bucketSize z ⌝ }
+    ensures { λ _. ⌜ ((base : List ℕ) → length base ≡ bucketSize z → Turns 0 base (mergeAll z (chip (now (flash .entry)) (now (spare .entry))) (beside b (now (writes .entry)) (now (order .entry))) base) (now (window .entry)) (now (window .exit))) ⌝ }
+{
+    if occurs(b, writes) {
+        lay_places(z, b, order, writes, flash, spare, window);
+    }
+}
+
+// Lays the logs of all its Write buckets, in the order. Most parts have none of them, and few compares show it.
+fn lay_logs(
+    z: Sizes,
+    b: u16,
+    order: &[u8],
+    writes: &[u16],
+    flash: &[u8],
+    spare: &[u8],
+    window: &mut [u8],
+)
+    requires { ⌜ Readable z (now flash) (now spare) ⌝ }
+    requires { ⌜ (length (now writes) ≡ length (now order)) × (all (isBelow (body z)) (now order) ≡ true) ⌝ }
+    requires { ⌜ length (now window) ≤ bucketSize z ⌝ }
+    ensures { λ _. ⌜ ((base : List ℕ) → length base ≡ bucketSize z → Turns 0 base (mergeAll z (chip (now (flash .entry)) (now (spare .entry))) (beside b (now (writes .entry)) (now (order .entry))) base) (now (window .entry)) (now (window .exit))) ⌝ }
+{
+    let n = writes.len();
+    let mut at = 0;
+    while at + PART <= n {
+        let end = at + PART;
+        lay_part(
+            z,
+            b,
+            &order[at..end],
+            &writes[at..end],
+            flash,
+            spare,
+            window,
+        );
+        at = end;
+    }
+    lay_part(z, b, &order[at..], &writes[at..], flash, spare, window);
 }
 
 // The window shows the bytes of b on the disk, and then those that recovery writes there.
@@ -167,42 +222,46 @@ fn rescue_one(
     units::spent(meter, z)
 }
 
-// The back-end bucket of a dropped copy, if the copy is Dirty.
-fn unsaved_back(z: Sizes, c: usize, back: u16, spare: &[u8]) -> u16
+// The back-end bucket of what a dropped bucket alone holds: of a Dirty copy, or of a Write bucket.
+fn unwritten_back(z: Sizes, c: usize, dropped_write: u16, dropped_copy: u16, spare: &[u8]) -> u16
     requires { ⌜ Chip z (now spare) ⌝ }
     requires { ⌜ c < z .c ⌝ }
-    ensures { λ r. ⌜ r ≡ (if isDirty z (spareOnly (now (spare .entry))) c then back else nowhere) ⌝ }
+    ensures { λ r. ⌜ r ≡ (if isDirty z (spareOnly (now (spare .entry))) c then «dropped_copy» else «dropped_write») ⌝ }
 {
     if image::is_dirty(z, c, spare) {
-        back
+        dropped_copy
     } else {
-        classes::NOWHERE
+        dropped_write
     }
 }
 
-// The column of the unsaved copies.
-fn unsaved_backs(z: Sizes, order: &[u8], dropped_copies: &[u16], spare: &[u8]) -> [u16; 256]
+// The column of what is to be written.
+fn unwritten_backs(
+    z: Sizes,
+    order: &[u8],
+    dropped_writes: &[u16],
+    dropped_copies: &[u16],
+    spare: &[u8],
+) -> [u16; 256]
     requires { ⌜ Chip z (now spare) ⌝ }
     requires { ⌜ now order ≡ inOrder z (spareOnly (now spare)) ⌝ }
+    requires { ⌜ now «dropped_writes» ≡ column z (spareOnly (now spare)) (isDroppedWrite z (spareOnly (now spare))) ⌝ }
     requires { ⌜ now «dropped_copies» ≡ column z (spareOnly (now spare)) (isDroppedCopy z (spareOnly (now spare))) ⌝ }
-    ensures { λ r. ⌜ take (length (now (order .entry))) r ≡ column z (spareOnly (now (spare .entry))) (isUnsaved z (spareOnly (now (spare .entry)))) ⌝ }
+    ensures { λ r. ⌜ take (length (now (order .entry))) r ≡ column z (spareOnly (now (spare .entry))) (isUnwritten z (spareOnly (now (spare .entry)))) ⌝ }
 {
-    let mut unsaved = [0u16; 256];
+    let mut unwritten = [0u16; 256];
     let mut i = 0;
     while i < order.len() {
-        unsaved[i] = unsaved_back(z, order[i] as usize, dropped_copies[i], spare);
+        unwritten[i] = unwritten_back(
+            z,
+            order[i] as usize,
+            dropped_writes[i],
+            dropped_copies[i],
+            spare,
+        );
         i += 1;
     }
-    unsaved
-}
-
-// The next back-end bucket that is flushed or unsaved, from one on; or `end`.
-fn next_rescued(dropped_writes: &[u16], unsaved: &[u16], from: usize, end: usize) -> usize
-    requires { ⌜ (from ≤ 65535) × (end ≤ 65535) ⌝ }
-    ensures { λ r. ⌜ r ≡ nextOf from end (now («dropped_writes» .entry) ++ now (unsaved .entry)) ⌝ }
-{
-    let first = order::next_of(dropped_writes, from, end);
-    order::next_of(unsaved, from, first)
+    unwritten
 }
 
 // The units of every rescued back-end bucket: from each to the next one.
@@ -213,20 +272,20 @@ fn rescue_each(
     writes: &[u16],
     dropped_writes: &[u16],
     copies: &[u16],
-    unsaved: &[u16],
+    unwritten: &[u16],
     flash: &[u8],
     spare: &[u8],
     disk: &mut [u8],
 ) -> Meter
     requires { ⌜ Recoverable z (now flash) (now spare) (now disk) ⌝ }
     requires { ⌜ Listed z (now spare) (now order) (now writes) (now «dropped_writes») (now copies) ⌝ }
-    requires { ⌜ now unsaved ≡ column z (spareOnly (now spare)) (isUnsaved z (spareOnly (now spare))) ⌝ }
+    requires { ⌜ now unwritten ≡ column z (spareOnly (now spare)) (isUnwritten z (spareOnly (now spare))) ⌝ }
     ensures { λ r. ⌜ running (now (flash .entry)) (now (spare .entry)) (now (disk .exit)) r ≡ runAll z (recover z (device (now (flash .entry)) (now (spare .entry)) (now (disk .entry))) .stores) (running (now (flash .entry)) (now (spare .entry)) (now (disk .entry)) meter) ⌝ }
     ensures { λ _. ⌜ length (now (disk .exit)) ≡ diskSize z ⌝ }
 {
     let end = z.b;
     let mut run = meter;
-    let mut b = next_rescued(dropped_writes, unsaved, 0, end);
+    let mut b = order::next_of(unwritten, 0, end);
     while b < end {
         run = rescue_one(
             run,
@@ -240,12 +299,12 @@ fn rescue_each(
             spare,
             disk,
         );
-        b = next_rescued(dropped_writes, unsaved, b + 1, end);
+        b = order::next_of(unwritten, b + 1, end);
     }
     run
 }
 
-// The stores of a recovery, with the unsaved copies in a column of their own.
+// The stores of a recovery, with what is to be written in a column of its own.
 pub fn rescue(
     meter: Meter,
     z: Sizes,
@@ -263,7 +322,7 @@ pub fn rescue(
     ensures { λ r. ⌜ running (now (flash .exit)) (now (spare .exit)) (now (disk .exit)) r ≡ runAll z (recover z (device (now (flash .entry)) (now (spare .entry)) (now (disk .entry))) .stores) (running (now (flash .entry)) (now (spare .entry)) (now (disk .entry)) meter) ⌝ }
     ensures { λ _. ⌜ Lent z (now (flash .exit)) (now (spare .exit)) (now (disk .exit)) ⌝ }
 {
-    let unsaved = unsaved_backs(z, order, dropped_copies, spare);
+    let unwritten = unwritten_backs(z, order, dropped_writes, dropped_copies, spare);
     let n = order.len();
     rescue_each(
         meter,
@@ -272,7 +331,7 @@ pub fn rescue(
         writes,
         dropped_writes,
         copies,
-        &unsaved[..n],
+        &unwritten[..n],
         flash,
         spare,
         disk,

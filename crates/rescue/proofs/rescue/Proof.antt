@@ -12,11 +12,11 @@ use Rattle.rescue.proofs.rescue.Tie as tie
 fits : (c : tie.Start) → length (c .args .order .now) ≤ 256
 fits c = order-length (c .args .z) (spareOnly (c .args .spare .now)) (c .pre .0 .limits) (c .pre .1 .order-is)
 
-unsaved-backs-requires : tie.Need-unsaved-backs-requires
-unsaved-backs-requires c κs = search needs
+unwritten-backs-requires : tie.Need-unwritten-backs-requires
+unwritten-backs-requires c κs = search needs
 
-array-share-prefix-unsaved : tie.Need-array-share-prefix-unsaved
-array-share-prefix-unsaved c = omega (arith, fits (c .before .before .before .before .before .before .before .before .before .before))
+array-share-prefix-unwritten : tie.Need-array-share-prefix-unwritten
+array-share-prefix-unwritten c = omega (arith, fits (c .before .before .before .before .before .before .before .before .before .before))
 
 slice-aggregate-rescue-each : tie.Need-slice-aggregate-rescue-each
 slice-aggregate-rescue-each c = simp length-take (omega (arith, fits (c .before .before .before .before .before .before .before .before .before .before .before)))
@@ -34,7 +34,7 @@ rescue-each-requires c κs =
           copies-are = columns .copies-are;
           dropped-copies-are = refl;
         },
-        c .before .before .before .before .unsaved-backs .ensures,
+        c .before .before .before .before .unwritten-backs .ensures,
       ),
     )
 
@@ -54,8 +54,8 @@ pub rescue-spec : {M : Type 1} → statement M
 rescue-spec =
     tie.close
     (tie.spec
-    unsaved-backs-requires
-    array-share-prefix-unsaved
+    unwritten-backs-requires
+    array-share-prefix-unwritten
     slice-aggregate-rescue-each
     rescue-each-requires
     same-length

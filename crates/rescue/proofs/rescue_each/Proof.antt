@@ -12,28 +12,27 @@ use Rattle.rescue.proofs.rescue_each.Statement.{statement}
 use Rattle.rescue.proofs.rescue_each.Tie as tie
 
 abbrev Inv-loop : tie.InvT-loop
-Inv-loop z order writes dropped-writes copies unsaved flash spare disk₀ end run₀ b₀ disk run b =
+Inv-loop z order writes dropped-writes copies unwritten flash spare disk₀ end run₀ b₀ disk run b =
     (b ≤ end) × (length disk ≡ diskSize z) × Reached z flash spare disk₀ run₀ b disk run
     × (b < end → isRescued z (device flash spare disk₀) b ≡ true)
 
 abbrev μ-loop : tie.MeasureT-loop
-μ-loop z order writes dropped-writes copies unsaved flash spare disk₀ end run₀ b₀ disk run b = end - b
+μ-loop z order writes dropped-writes copies unwritten flash spare disk₀ end run₀ b₀ disk run b = end - b
 
-next-rescued-requires : tie.Need-next-rescued-requires Inv-loop μ-loop
-next-rescued-requires c κs = (omega arith, c .before .before .before .before .before .before .before .before .pre .0 .limits .b-high)
+next-of-requires : tie.Need-next-of-requires Inv-loop μ-loop
+next-of-requires c κs = (omega arith, c .before .before .before .before .before .before .before .before .pre .0 .limits .b-high)
 
 loop-holds : tie.Need-loop-holds Inv-loop μ-loop
 loop-holds c =
     let start = c .before .before .before .before .before .before .before .before .before in
     let x = start .args in
     let readable = readable-of (start .pre .0) in
-    let flushed = start .pre .1 .0 .dropped-writes-are in
-    let e = c .next-rescued .ensures in
+    let e = c .next-of .ensures in
     let none : 0 ≤ x .z .b = omega arith in (
-      next-high readable (x .disk .now) flushed (start .pre .1 .1) 0 e,
+      next-high readable (x .disk .now) (start .pre .1 .1) 0 e,
       start .pre .0 .lent .disk-length,
-      reached-first (x .z) (x .flash .now) (x .spare .now) (x .disk .now) (x .meter) (c .next-rescued .result) (none-between readable (x .disk .now) flushed (start .pre .1 .1) 0 e none),
-      next-rescued readable (x .disk .now) flushed (start .pre .1 .1) 0 e,
+      reached-first (x .z) (x .flash .now) (x .spare .now) (x .disk .now) (x .meter) (c .next-of .result) (none-between readable (x .disk .now) (start .pre .1 .1) 0 e none),
+      next-rescued readable (x .disk .now) (start .pre .1 .1) 0 e,
     )
 
 rescue-one-requires : tie.Need-rescue-one-requires Inv-loop μ-loop
@@ -50,11 +49,11 @@ rescue-one-requires c κs =
       (start .pre .1 .0, (here, same-rescued (x .z) (device (x .flash .now) (x .spare .now) (x .disk .now)) (l .b) ∙ l .inv .3 here)),
     )
 
-add-next-rescued : tie.Need-add-next-rescued Inv-loop μ-loop
-add-next-rescued c = omega (arith, c .before .before .before .before .loop-test .taken, c .before .before .before .before .before .before .before .before .before .before .before .before .before .before .before .pre .0 .limits .b-high)
+add-next-of : tie.Need-add-next-of Inv-loop μ-loop
+add-next-of c = omega (arith, c .before .before .before .before .loop-test .taken, c .before .before .before .before .before .before .before .before .before .before .before .before .before .before .before .pre .0 .limits .b-high)
 
-next-rescued-requires-2 : tie.Need-next-rescued-requires-2 Inv-loop μ-loop
-next-rescued-requires-2 c κs = (omega (arith, c .before .before .before .before .loop-test .taken, c .before .before .before .before .before .before .before .before .before .before .before .before .before .before .before .pre .0 .limits .b-high), c .before .before .before .before .before .before .before .before .before .before .before .before .before .before .before .pre .0 .limits .b-high)
+next-of-requires-2 : tie.Need-next-of-requires-2 Inv-loop μ-loop
+next-of-requires-2 c κs = (omega (arith, c .before .before .before .before .loop-test .taken, c .before .before .before .before .before .before .before .before .before .before .before .before .before .before .before .pre .0 .limits .b-high), c .before .before .before .before .before .before .before .before .before .before .before .before .before .before .before .pre .0 .limits .b-high)
 
 loop-less : tie.Need-loop-less Inv-loop μ-loop
 loop-less c =
@@ -62,7 +61,7 @@ loop-less c =
     let x = start .args in
     let l = c .before .before .before .before .before .before .loop in
     let in-reach : l .b + 1 ≤ x .z .b = omega (arith, c .before .before .before .before .before .loop-test .taken) in
-    omega (arith, next-low (readable-of (start .pre .0)) (x .disk .now) (start .pre .1 .0 .dropped-writes-are) (start .pre .1 .1) (l .b + 1) (c .next-rescued2 .ensures) in-reach, c .before .before .before .before .before .loop-test .taken)
+    omega (arith, next-low (readable-of (start .pre .0)) (x .disk .now) (start .pre .1 .1) (l .b + 1) (c .next-of2 .ensures) in-reach, c .before .before .before .before .before .loop-test .taken)
 
 loop-again : tie.Need-loop-again Inv-loop μ-loop
 loop-again c =
@@ -70,17 +69,16 @@ loop-again c =
     let x = start .args in
     let l = c .before .before .before .before .before .before .loop in
     let readable = readable-of (start .pre .0) in
-    let flushed = start .pre .1 .0 .dropped-writes-are in
-    let e = c .next-rescued2 .ensures in
+    let e = c .next-of2 .ensures in
     let one = c .before .before .before .rescue-one .ensures in
     let here : l .b < x .z .b = c .before .before .before .before .before .loop-test .taken in
     let in-reach : l .b + 1 ≤ x .z .b = omega arith in
-    let later : l .b < c .next-rescued2 .result = omega (arith, next-low readable (x .disk .now) flushed (start .pre .1 .1) (l .b + 1) e in-reach) in (
-      next-high readable (x .disk .now) flushed (start .pre .1 .1) (l .b + 1) e,
+    let later : l .b < c .next-of2 .result = omega (arith, next-low readable (x .disk .now) (start .pre .1 .1) (l .b + 1) e in-reach) in (
+      next-high readable (x .disk .now) (start .pre .1 .1) (l .b + 1) e,
       one .1,
-      reached-more (x .z) (x .flash .now) (x .spare .now) (x .disk .now) (x .meter) readable (l .b) (c .next-rescued2 .result) (l .disk) _ (l .run) (c .before .before .before .rescue-one .result) (l .inv .2) here (l .inv .3 here)
-          (l .inv .1) (one .0) later (none-between readable (x .disk .now) flushed (start .pre .1 .1) (l .b + 1) e in-reach),
-      next-rescued readable (x .disk .now) flushed (start .pre .1 .1) (l .b + 1) e,
+      reached-more (x .z) (x .flash .now) (x .spare .now) (x .disk .now) (x .meter) readable (l .b) (c .next-of2 .result) (l .disk) _ (l .run) (c .before .before .before .rescue-one .result) (l .inv .2) here (l .inv .3 here)
+          (l .inv .1) (one .0) later (none-between readable (x .disk .now) (start .pre .1 .1) (l .b + 1) e in-reach),
+      next-rescued readable (x .disk .now) (start .pre .1 .1) (l .b + 1) e,
     )
 
 same-length : tie.Need-same-length Inv-loop μ-loop
@@ -100,11 +98,11 @@ rescue-each-spec =
     (tie.spec
     Inv-loop
     μ-loop
-    next-rescued-requires
+    next-of-requires
     loop-holds
     rescue-one-requires
-    add-next-rescued
-    next-rescued-requires-2
+    add-next-of
+    next-of-requires-2
     loop-less
     loop-again
     same-length

@@ -1,7 +1,7 @@
 use mathlib.Core.Path.{sym, _∙_}
 use borrow.Author.Needs.{needs}
-use Rattle.rescue.proofs.unsaved_back.Statement.{statement}
-use Rattle.rescue.proofs.unsaved_back.Tie as tie
+use Rattle.rescue.proofs.unwritten_back.Statement.{statement}
+use Rattle.rescue.proofs.unwritten_back.Tie as tie
 
 is-dirty-requires : tie.Need-is-dirty-requires
 is-dirty-requires c κs = search needs
@@ -12,5 +12,5 @@ returns c = rw (sym (c .before .is-dirty .ensures) ∙ c .if1 .taken)
 returns-2 : tie.Need-returns-2
 returns-2 c = rw (sym (c .before .is-dirty .ensures) ∙ c .if1 .left)
 
-pub unsaved-back-spec : {M : Type 1} → statement M
-unsaved-back-spec = tie.close (tie.spec is-dirty-requires returns returns-2)
+pub unwritten-back-spec : {M : Type 1} → statement M
+unwritten-back-spec = tie.close (tie.spec is-dirty-requires returns returns-2)
