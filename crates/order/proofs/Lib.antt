@@ -1,3 +1,4 @@
 pub mod Ranks
+pub mod Rings
 pub mod Differ
 pub mod Next
