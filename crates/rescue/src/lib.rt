@@ -6,12 +6,11 @@ ghost use mathlib.Core.Path.{_≡_};
 ghost use mathlib.Core.Bool.{true};
 ghost use mathlib.Core.List.{List};
 ghost use Prim.Native.Nat.{ℕ, _*_, _≤_, _<_};
-ghost use lib.Dec.{eqb};
 ghost use lib.ListN.{length, take, getD};
 ghost use Rattle.lists.specs.Lists.{if_then_else_, all, head, member, part};
 ghost use Rattle.model.specs.Sizes.{bucketSize, flashSize, diskSize, body};
 ghost use Rattle.model.specs.Stores.{diskBytes};
-ghost use Rattle.model.specs.Image.{isDirty, merge};
+ghost use Rattle.model.specs.Image.{isDirty};
 ghost use Rattle.model.specs.State.{isBelow};
 ghost use Rattle.model.specs.Recover.{isDroppedWrite, isDroppedCopy, mergeAll, isRescued, rescued, rescueStores, recover};
 ghost use Rattle.model.proofs.Limits.{Limits};
@@ -21,7 +20,7 @@ ghost use Rattle.merge.specs.Window.{Turns, Readable, chip};
 ghost use Rattle.meter.specs.Run.{running, runAll};
 ghost use Rattle.classes.specs.Columns.{inOrder, column, Columns};
 ghost use Rattle.rescue.specs.Sources.{Recoverable, Listed};
-ghost use Rattle.rescue.specs.Beside.{beside, isUnwritten};
+ghost use Rattle.rescue.specs.Beside.{beside, Passed, isUnwritten};
 
 // So many places of a column are compared with a number at once.
 const PART: usize = 16;
@@ -39,19 +38,35 @@ fn occurs(x: u16, column: &[u16]) -> bool
     found
 }
 
-// The first bucket that the number stands beside; 0, if it stands nowhere.
-fn first_beside(x: u16, column: &[u16], order: &[u8]) -> u8
-    requires { ⌜ length (now column) ≡ length (now order) ⌝ }
-    ensures { λ r. ⌜ r ≡ head (beside x (now (column .entry)) (now (order .entry))) ⌝ }
+// Passes over parts of the column that the number does not stand in, from one place on.
+fn skip_parts(x: u16, column: &[u16], from: usize) -> usize
+    requires { ⌜ from ≤ length (now column) ⌝ }
+    ensures { λ r. ⌜ Passed x (now (column .entry)) from r ⌝ }
 {
-    let mut i = 0;
-    while i < column.len() {
-        if x == column[i] {
-            return order[i];
+    let mut at = from;
+    while at + PART <= column.len() {
+        let end = at + PART;
+        if occurs(x, &column[at..end]) {
+            return at;
         }
-        i += 1;
+        at = end;
     }
-    0
+    at
+}
+
+// The first place of the number, from one place on; or the end.
+fn next_place(x: u16, column: &[u16], from: usize) -> usize
+    requires { ⌜ from ≤ length (now column) ⌝ }
+    ensures { λ r. ⌜ Passed x (now (column .entry)) from r × (r < length (now (column .entry)) → x ≡ getD (now (column .entry)) r 0) ⌝ }
+{
+    let mut at = skip_parts(x, column, from);
+    while at < column.len() {
+        if x == column[at] {
+            return at;
+        }
+        at += 1;
+    }
+    at
 }
 
 // The window comes to show the copy of b, if b has one.
@@ -61,76 +76,14 @@ fn lay_copy(z: Sizes, b: u16, order: &[u8], copies: &[u16], flash: &[u8], window
     requires { ⌜ length (now window) ≤ bucketSize z ⌝ }
     ensures { λ _. ⌜ now (window .exit) ≡ (if member b (now (copies .entry)) then part (part (now (flash .entry)) (head (beside b (now (copies .entry)) (now (order .entry))) * bucketSize z) (bucketSize z)) 0 (length (now (window .entry))) else now (window .entry)) ⌝ }
 {
-    if occurs(b, copies) {
-        let c = first_beside(b, copies, order) as usize;
+    let place = next_place(b, copies, 0);
+    if place < copies.len() {
+        let c = order[place] as usize;
         gather::piece_range(flash, z.p * z.s, c, 0, window);
     }
 }
 
-// Lays the logs of the bucket at a place, if it is a Write bucket of b.
-fn lay_bucket(
-    z: Sizes,
-    b: u16,
-    place: usize,
-    order: &[u8],
-    writes: &[u16],
-    flash: &[u8],
-    spare: &[u8],
-    window: &mut [u8],
-)
-    requires { ⌜ Readable z (now flash) (now spare) ⌝ }
-    requires { ⌜ (place < length (now order)) × (place < length (now writes)) × (getD (now order) place 0 < body z) ⌝ }
-    requires { ⌜ length (now window) ≤ bucketSize z ⌝ }
-    ensures { λ _. ⌜ ((base : List ℕ) → length base ≡ bucketSize z → Turns 0 base (if eqb b (getD (now (writes .entry)) place 0) then merge z (chip (now (flash .entry)) (now (spare .entry))) (getD (now (order .entry)) place 0) base else base) (now (window .entry)) (now (window .exit))) ⌝ }
-{
-    if b == writes[place] {
-        merge::merge_range(z, order[place] as usize, 0, flash, spare, window);
-    }
-}
-
-// Lays the logs of the Write buckets of b, place by place.
-fn lay_places(
-    z: Sizes,
-    b: u16,
-    order: &[u8],
-    writes: &[u16],
-    flash: &[u8],
-    spare: &[u8],
-    window: &mut [u8],
-)
-    requires { ⌜ Readable z (now flash) (now spare) ⌝ }
-    requires { ⌜ (length (now writes) ≡ length (now order)) × (all (isBelow (body z)) (now order) ≡ true) ⌝ }
-    requires { ⌜ length (now window) ≤ bucketSize z ⌝ }
-    ensures { λ _. ⌜ ((base : List ℕ) → length base ≡ bucketSize z → Turns 0 base (mergeAll z (chip (now (flash .entry)) (now (spare .entry))) (beside b (now (writes .entry)) (now (order .entry))) base) (now (window .entry)) (now (window .exit))) ⌝ }
-{
-    let mut place = 0;
-    while place < writes.len() {
-        lay_bucket(z, b, place, order, writes, flash, spare, window);
-        place += 1;
-    }
-}
-
-// A part of the order that b does not stand beside is passed over.
-fn lay_part(
-    z: Sizes,
-    b: u16,
-    order: &[u8],
-    writes: &[u16],
-    flash: &[u8],
-    spare: &[u8],
-    window: &mut [u8],
-)
-    requires { ⌜ Readable z (now flash) (now spare) ⌝ }
-    requires { ⌜ (length (now writes) ≡ length (now order)) × (all (isBelow (body z)) (now order) ≡ true) ⌝ }
-    requires { ⌜ length (now window) ≤ bucketSize z ⌝ }
-    ensures { λ _. ⌜ ((base : List ℕ) → length base ≡ bucketSize z → Turns 0 base (mergeAll z (chip (now (flash .entry)) (now (spare .entry))) (beside b (now (writes .entry)) (now (order .entry))) base) (now (window .entry)) (now (window .exit))) ⌝ }
-{
-    if occurs(b, writes) {
-        lay_places(z, b, order, writes, flash, spare, window);
-    }
-}
-
-// Lays the logs of all its Write buckets, in the order. Most parts have none of them, and few compares show it.
+// Lays the logs of all its Write buckets, in the order.
 fn lay_logs(
     z: Sizes,
     b: u16,
@@ -145,22 +98,11 @@ fn lay_logs(
     requires { ⌜ length (now window) ≤ bucketSize z ⌝ }
     ensures { λ _. ⌜ ((base : List ℕ) → length base ≡ bucketSize z → Turns 0 base (mergeAll z (chip (now (flash .entry)) (now (spare .entry))) (beside b (now (writes .entry)) (now (order .entry))) base) (now (window .entry)) (now (window .exit))) ⌝ }
 {
-    let n = writes.len();
-    let mut at = 0;
-    while at + PART <= n {
-        let end = at + PART;
-        lay_part(
-            z,
-            b,
-            &order[at..end],
-            &writes[at..end],
-            flash,
-            spare,
-            window,
-        );
-        at = end;
+    let mut place = next_place(b, writes, 0);
+    while place < writes.len() {
+        merge::merge_range(z, order[place] as usize, 0, flash, spare, window);
+        place = next_place(b, writes, place + 1);
     }
-    lay_part(z, b, &order[at..], &writes[at..], flash, spare, window);
 }
 
 // The window shows the bytes of b on the disk, and then those that recovery writes there.
