@@ -8,7 +8,7 @@ use native.Mathlib.Omega.{arith}
 use lib.Dec.{eqb}
 use lib.ListN.{length, getD, length-map}
 use borrow.Author.Tests.{lt-ltb, eq-eqb, eqb-true}
-use Rattle.lists.specs.Lists.{if_then_else_, all, any, keep, below, head, empty, member, times}
+use Rattle.lists.specs.Lists.{if_then_else_, all, keep, below, head, empty, member, times}
 use Rattle.lists.proofs.Tests.{and-left, and-right, and-true, or-left, or-second, or-cases, same-truth}
 use Rattle.lists.proofs.Rows.{length-row}
 use Rattle.lists.proofs.Counts.{in-all, times-rest, times-self, empty-times}
