@@ -2,7 +2,7 @@
 ghost use mathlib.Core.Path.{_≡_};
 ghost use mathlib.Core.List.{[], _∷_, _++_};
 ghost use Prim.Native.Nat.{_+_, _≤_, _<_};
-ghost use lib.ListN.{length, take, drop};
+ghost use lib.ListN.{length, drop};
 ghost use lib.Seq.{paste};
 ghost use Rattle.lists.specs.Lists.{below, head};
 ghost use Rattle.lists.specs.Arrays.{joined};
@@ -98,21 +98,6 @@ impl Fifo {
         Fifo {
             items: next,
             len: n + m,
-        }
-    }
-
-    // One more before the place `at`.
-    pub fn insert(self, at: usize, c: u8) -> Self
-        requires { ⌜ (at ≤ length (listOf self)) × (length (listOf self) < 256) ⌝ }
-        ensures { λ r. ⌜ listOf r ≡ take at (listOf self) ++ (c ∷ drop at (listOf self)) ⌝ }
-    {
-        let n = self.used();
-        let items = self.items;
-        let mut next = copied(items, at + 1, items, at, n - at);
-        next[at] = c;
-        Fifo {
-            items: next,
-            len: n + 1,
         }
     }
 

@@ -1,16 +1,20 @@
 // Whether the state's queues hold each cache bucket once.
 use fifo::Fifo;
+use queue::Queue;
 use state::State;
 ghost use mathlib.Core.Path.{_≡_};
-ghost use mathlib.Core.Bool.{true};
 ghost use Prim.Native.Nat.{ℕ, _≤_, _<_};
-ghost use lib.ListN.{length, take, getD};
-ghost use Rattle.lists.specs.Lists.{all, allBelow, times};
+ghost use lib.Dec.{eqb};
+ghost use lib.ListN.{getD};
+ghost use Rattle.lists.specs.Lists.{allBelow};
 ghost use Rattle.model.specs.Sizes.{body};
-ghost use Rattle.model.specs.State.{queued, isBelow, onceIn, eachOnce};
+ghost use Rattle.model.specs.State.{caches, queued, eachOnce};
 ghost use Rattle.fifo.specs.View.{listOf};
+ghost use Rattle.queue.specs.View.{entriesOf};
 ghost use Rattle.state.specs.View.{viewOf};
+ghost use Rattle.once.specs.Tally.{Few, Tallied};
 
+// So many buckets as there are, each of them once: then there is no other.
 pub fn buckets_once(s: State) -> bool
     requires { ⌜ body (s .sizes) ≤ 256 ⌝ }
     ensures { λ r. ⌜ r ≡ eachOnce (body (s .sizes)) (queued (viewOf s)) ⌝ }
@@ -20,66 +24,57 @@ pub fn buckets_once(s: State) -> bool
     if total != end {
         return false;
     }
-    let list = queued(s);
-    let n = list.used();
-    let items = list.items;
-    if all_below(items, n, end) {
-        all_once(items, n, end)
-    } else {
-        false
-    }
-}
-
-// All cache buckets in queues, queue after queue.
-fn queued(s: State) -> Fifo
-    requires { ⌜ length (queued (viewOf s)) ≤ 256 ⌝ }
-    ensures { λ r. ⌜ listOf r ≡ queued (viewOf s) ⌝ }
-{
-    let reads = s.reads.caches();
-    let writes = s.writes.caches();
-    let unused = s.gc.append(s.free);
-    let rest = writes.append(unused);
-    reads.append(rest)
-}
-
-// The first n are all below c.
-fn all_below(items: [u8; 256], n: usize, c: usize) -> bool
-    requires { ⌜ n ≤ 256 ⌝ }
-    ensures { λ r. ⌜ r ≡ all (isBelow c) (take n items) ⌝ }
-{
-    let mut below = true;
-    let mut i = 0;
-    while i < n {
-        let x = items[i] as usize;
-        below = below & (x < c);
-        i += 1;
-    }
-    below
-}
-
-// How often each number stands among the first n, all below c.
-fn tally(items: [u8; 256], n: usize, c: usize) -> [u16; 256]
-    requires { ⌜ (n ≤ 256) × (c ≤ 256) ⌝ }
-    requires { ⌜ all (isBelow c) (take n items) ≡ true ⌝ }
-    ensures { λ r. ⌜ (length r ≡ 256) × ((x : ℕ) → x < 256 → getD r x 0 ≡ times x (take n items)) ⌝ }
-{
     let mut counts = [0u16; 256];
+    tally_queue(s.reads, &mut counts);
+    tally_queue(s.writes, &mut counts);
+    tally(s.gc, &mut counts);
+    tally(s.free, &mut counts);
+    all_once(&counts, end)
+}
+
+// Each of the queue's cache buckets is counted once more.
+fn tally_queue(queue: Queue, counts: &mut [u16; 256])
+    requires { ⌜ Few (now counts) ⌝ }
+    ensures { λ _. ⌜ Tallied (now (counts .entry)) (caches (entriesOf queue)) (now (counts .exit)) ⌝ }
+{
+    let n = queue.used();
+    let items = queue.items;
     let mut i = 0;
     while i < n {
-        let x = items[i] as usize;
+        let e = items[i];
+        let x = e.cache as usize;
         counts[x] = counts[x] + 1;
         i += 1;
     }
-    counts
 }
 
-// Each number below c stands once among the first n.
-fn all_once(items: [u8; 256], n: usize, c: usize) -> bool
-    requires { ⌜ (n ≤ 256) × (c ≤ 256) ⌝ }
-    requires { ⌜ all (isBelow c) (take n items) ≡ true ⌝ }
-    ensures { λ r. ⌜ r ≡ allBelow c (onceIn (take n items)) ⌝ }
+// A byte as an index of an array that has a place for each.
+fn wide(c: u8) -> usize
+    ensures { λ r. ⌜ (r ≡ c) × (r < 256) ⌝ }
 {
-    let counts = tally(items, n, c);
+    c as usize
+}
+
+// The same of a queue of cache buckets alone.
+fn tally(list: Fifo, counts: &mut [u16; 256])
+    requires { ⌜ Few (now counts) ⌝ }
+    ensures { λ _. ⌜ Tallied (now (counts .entry)) (listOf list) (now (counts .exit)) ⌝ }
+{
+    let n = list.used();
+    let items = list.items;
+    let mut i = 0;
+    while i < n {
+        let x = wide(items[i]);
+        counts[x] = counts[x] + 1;
+        i += 1;
+    }
+}
+
+// All counts below c are 1. All are compared, with no way out: such a loop takes several at a time.
+fn all_once(counts: &[u16; 256], c: usize) -> bool
+    requires { ⌜ c ≤ 256 ⌝ }
+    ensures { λ r. ⌜ r ≡ allBelow c (λ (x : ℕ). eqb (getD (now (counts .entry)) x 0) 1) ⌝ }
+{
     let mut once = true;
     let mut x = 0;
     while x < c {

@@ -15,6 +15,7 @@ ghost use Rattle.fifo.specs.View.{listOf};
 ghost use Rattle.queue.specs.View.{entriesOf};
 ghost use Rattle.state.specs.View.{viewOf, stateOf, halted, Bounded};
 
+// The queues stand first and the single bytes last: a copy of the state is then made of aligned parts.
 pub struct State {
     pub reads: Queue,
     pub writes: Queue,

@@ -1,14 +1,19 @@
-use mathlib.Core.Bool.{true, false, and-true}
+use mathlib.Core.List.{[], _++_}
 use mathlib.Core.Path.{_≡_, sym, ap, _∙_}
 use native.Mathlib.Omega.{arith}
-use lib.ListN.{length, take}
-use borrow.Author.Tests.{eq-eqb, ne-eqb}
+use lib.Dec.{eqb}
+use lib.ListN.{length, getD, replicate, length-append, length-map, length-replicate, getD-replicate}
+use borrow.Author.Tests.{ne-eqb}
 use borrow.Author.Needs.{needs}
-use Rattle.lists.proofs.Arrays.{take-used}
-use Rattle.lists.specs.Lists.{every, all}
-use Rattle.model.specs.State.{queued, isBelow, eachOnce}
+use Prim.Native.Nat.{ℕ, _<_}
+use Rattle.lists.specs.Lists.{every, times}
+use Rattle.lists.proofs.Rows.{below-alike}
+use Rattle.model.specs.State.{cacheBucket, caches, queued, onceIn, eachOnce}
+use Rattle.fifo.specs.View.{listOf}
+use Rattle.queue.specs.View.{entriesOf}
 use Rattle.state.proofs.Allocate.{queued-length}
 use Rattle.state.specs.View.{viewOf}
+use Rattle.once.proofs.Counted.{tally-none, tally-both, tally-few, once-alone}
 use Rattle.once.proofs.buckets_once.Statement.{statement}
 use Rattle.once.proofs.buckets_once.Tie as tie
 
@@ -42,39 +47,50 @@ returns c = let s = c .before .before .before .before .before .before .args .s i
     let end = c .before .before .before .before .before .body in
     rw (← end .ensures, ne-eqb (length (queued (viewOf s))) (end .result) (λ h. c .if1 .taken (omega (arith, queued-length (viewOf s)))))
 
-queued-requires : tie.Need-queued-requires
-queued-requires c κs = omega (arith, queued-length (viewOf (c .before .before .before .before .before .before .args .s)))
+tally-queue-requires : tie.Need-tally-queue-requires
+tally-queue-requires c κs = tally-few [] (replicate 256 0) (tally-none (replicate 256 0) (length-replicate {A = ℕ} 256 0)) (omega arith)
 
-used-requires-5 : tie.Need-used-requires-5
-used-requires-5 c κs = search needs
+tally-queue-requires-2 : tie.Need-tally-queue-requires-2
+unfolding caches
+tally-queue-requires-2 c κs = let s = c .before .before .before .before .before .before .before .before .before .args .s in
+    tally-few (caches (entriesOf (s .reads))) (c .before .tally-queue .last .1 .0) (c .before .tally-queue .ensures) (rw (length-map (entriesOf (s .reads)) cacheBucket) (omega arith))
 
-all-below-requires : tie.Need-all-below-requires
-all-below-requires c κs = search needs
+tally-requires : tie.Need-tally-requires
+unfolding caches
+tally-requires c κs = let s = c .before .before .before .before .before .before .before .before .before .before .before .args .s in
+    let reads = caches (entriesOf (s .reads)) in
+    let writes = caches (entriesOf (s .writes)) in
+    tally-few (reads ++ writes) (c .before .tally-queue2 .last .1 .0) (tally-both (replicate 256 0) reads (c .before .before .before .tally-queue .last .1 .0) writes (c .before .tally-queue2 .last .1 .0) (c .before .before .before .tally-queue .ensures) (c .before .tally-queue2 .ensures)) (rw (length-append reads writes, length-map (entriesOf (s .reads)) cacheBucket, length-map (entriesOf (s .writes)) cacheBucket) (omega arith))
+
+tally-requires-2 : tie.Need-tally-requires-2
+unfolding caches
+tally-requires-2 c κs = let s = c .before .before .before .before .before .before .before .before .before .before .before .before .before .args .s in
+    let reads = caches (entriesOf (s .reads)) in
+    let writes = caches (entriesOf (s .writes)) in
+    let gc = listOf (s .gc) in
+    let told = tally-both (replicate 256 0) reads (c .before .before .before .before .before .tally-queue .last .1 .0) (writes ++ gc) (c .before .tally .last .1 .0) (c .before .before .before .before .before .tally-queue .ensures) (tally-both (c .before .before .before .before .before .tally-queue .last .1 .0) writes (c .before .before .before .tally-queue2 .last .1 .0) gc (c .before .tally .last .1 .0) (c .before .before .before .tally-queue2 .ensures) (c .before .tally .ensures)) in
+    tally-few (reads ++ (writes ++ gc)) (c .before .tally .last .1 .0) told (rw (length-append reads (writes ++ gc), length-append writes gc, length-map (entriesOf (s .reads)) cacheBucket, length-map (entriesOf (s .writes)) cacheBucket) (omega arith))
 
 all-once-requires : tie.Need-all-once-requires
-all-once-requires c κs = ((omega arith, omega arith), sym (c .before .all-below .ensures) ∙ c .if2 .taken)
+all-once-requires c κs = search needs
 
 returns-2 : tie.Need-returns-2
-unfolding eachOnce every
-returns-2 c = let s = c .before .before .before .before .before .before .before .before .before .before .before .before .args .s in
-    let end = c .before .before .before .before .before .before .before .before .before .before .before .body in
-    let list = c .before .before .before .before .before .queued .result in
-    let u = c .before .before .before .before .used5 in
-    let e : length (queued (viewOf s)) ≡ end .result = omega (arith, queued-length (viewOf s)) in
-    let l : take (u .result) (list .items) ≡ queued (viewOf s) = take-used (u .result) (list .len) (list .items) (u .ensures .0) ∙ c .before .before .before .before .before .queued .ensures in
-    let b : all (isBelow (end .result)) (queued (viewOf s)) ≡ true = ap (all (isBelow (end .result))) (sym l) ∙ (sym (c .before .before .all-below .ensures) ∙ c .before .if2 .taken) in
-    rw (← end .ensures, c .all-once .ensures, l, eq-eqb (length (queued (viewOf s))) (end .result) e, b) (simp and-true)
-
-returns-3 : tie.Need-returns-3
-unfolding eachOnce every
-returns-3 c = let s = c .before .before .before .before .before .before .before .before .before .before .before .args .s in
-    let end = c .before .before .before .before .before .before .before .before .before .before .body in
-    let list = c .before .before .before .before .queued .result in
-    let u = c .before .before .before .used5 in
-    let e : length (queued (viewOf s)) ≡ end .result = omega (arith, queued-length (viewOf s)) in
-    let l : take (u .result) (list .items) ≡ queued (viewOf s) = take-used (u .result) (list .len) (list .items) (u .ensures .0) ∙ c .before .before .before .before .queued .ensures in
-    let b : all (isBelow (end .result)) (queued (viewOf s)) ≡ false = ap (all (isBelow (end .result))) (sym l) ∙ (sym (c .before .all-below .ensures) ∙ c .if2 .left) in
-    rw (← end .ensures, eq-eqb (length (queued (viewOf s))) (end .result) e, b)
+unfolding queued onceIn
+returns-2 c = let s = c .before .before .before .before .before .before .before .before .before .before .before .before .before .before .before .before .args .s in
+    let end = c .before .before .before .before .before .before .before .before .before .before .before .before .before .before .before .body in
+    let reads = caches (entriesOf (s .reads)) in
+    let writes = caches (entriesOf (s .writes)) in
+    let gc = listOf (s .gc) in
+    let free = listOf (s .free) in
+    let list = queued (viewOf s) in
+    let rest = tally-both (c .before .before .before .before .before .before .before .before .tally-queue .last .1 .0) writes (c .before .before .before .before .before .before .tally-queue2 .last .1 .0) (gc ++ free) (c .before .before .tally2 .last .1 .0) (c .before .before .before .before .before .before .tally-queue2 .ensures) (tally-both (c .before .before .before .before .before .before .tally-queue2 .last .1 .0) gc (c .before .before .before .before .tally .last .1 .0) free (c .before .before .tally2 .last .1 .0) (c .before .before .before .before .tally .ensures) (c .before .before .tally2 .ensures)) in
+    let told = tally-both (replicate 256 0) reads (c .before .before .before .before .before .before .before .before .tally-queue .last .1 .0) (writes ++ (gc ++ free)) (c .before .before .tally2 .last .1 .0) (c .before .before .before .before .before .before .before .before .tally-queue .ensures) rest in
+    let n : length list ≡ end .result = omega (arith, queued-length (viewOf s)) in
+    let counted : (x : ℕ) → x < end .result → eqb (getD (c .before .before .tally2 .last .1 .0) x 0) 1 ≡ onceIn list x =
+    λ x h. ap (λ (m : ℕ). eqb m 1) (let k : getD (c .before .before .tally2 .last .1 .0) x 0 ≡ times x list = omega (arith, told .1 x (omega (arith, c .before .before .before .before .before .before .before .before .before .before .before .before .before .before .before .before .pre)), getD-replicate {A = ℕ} 256 x 0 0 (omega (arith, c .before .before .before .before .before .before .before .before .before .before .before .before .before .before .before .before .pre))) in k) in
+    rw (← end .ensures) (c .all-once .ensures
+    ∙ (below-alike (end .result) (λ x. eqb (getD (c .before .before .tally2 .last .1 .0) x 0) 1) (onceIn list) counted
+    ∙ sym (once-alone (end .result) list n)))
 
 pub buckets-once-spec : {M : Type 1} → statement M
 buckets-once-spec =
@@ -89,9 +105,9 @@ buckets-once-spec =
     used-requires-4
     add-total-3
     returns
-    queued-requires
-    used-requires-5
-    all-below-requires
+    tally-queue-requires
+    tally-queue-requires-2
+    tally-requires
+    tally-requires-2
     all-once-requires
-    returns-2
-    returns-3)
+    returns-2)
