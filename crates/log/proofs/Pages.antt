@@ -1,12 +1,11 @@
 -- A log's pages: how many there may be, and the bytes of each.
-use Prim.Native.Nat.{ℕ, _+_, _-_, _*_, _≤_, _<_, min}
+use Prim.Native.Nat.{ℕ, _+_, _-_, _*_, _≤_, _<_}
 use mathlib.Core.Path.{_≡_, sym, ap, _∙_}
-use mathlib.Core.List.{List, _++_, append-nil}
+use mathlib.Core.List.{List, _++_}
 use native.Mathlib.Omega.{arith}
 use native.Mathlib.Nat.{zero-add, mul-le-mul-right}
-use native.Mathlib.Decide.{decLe}
-use lib.ListN.{length, take, drop, length-drop, drop-of-length-le}
-use lib.Seq.{take-all, take-length, length-take-le, take-append-le, take-append-add}
+use lib.ListN.{length, take, drop, length-drop}
+use lib.Seq.{take-all, take-append-le, take-append-add}
 use Rattle.lists.specs.Lists.{splice, part, ff}
 use Rattle.lists.proofs.Parts.{part-ff, length-ff}
 use Rattle.model.specs.declared.Sizes.{Sizes}
@@ -33,37 +32,36 @@ small {z} {log} {n} f =
     }
 
 -- every page of a log begins before its end
-pub page-begins : (z : Sizes) (n o : ℕ) → 1 ≤ z .s → o < pagesFor z n → o * z .s < n
-page-begins z n o h k = omega (arith, nth-inside o (pagesFor z n) (z .s) k, pages-least z n h)
+pub page-begins : {z : Sizes} {log : Log} {n : ℕ} → Fits z log n → (o : ℕ) → o < pagesFor z n → o * z .s < n
+page-begins {z} {log} {n} f o k = omega (arith, nth-inside o (pagesFor z n) (z .s) k, pages-least z n (omega (arith, f .limits .s-low)))
 
 rest-ff : (s n : ℕ) → n ≤ s → drop n (ff s) ≡ ff (s - n)
 unfolding part
 rest-ff s n h =
     sym (take-all (s - n) (drop n (ff s)) (omega (arith, length-drop n (ff s), length-ff s))) ∙ part-ff s n (s - n) (omega arith)
 
-front-ff : (s n : ℕ) → n ≤ s → take n (ff s) ≡ ff n
+pub front-ff : (s n : ℕ) → n ≤ s → take n (ff s) ≡ ff n
 unfolding part
 front-ff s n h = part-ff s 0 n (omega arith)
 
 -- bytes laid over the front of FF
-laid : (s : ℕ) (l : List ℕ) → splice (ff s) 0 (take (min s (length l)) l) ≡ take s (l ++ ff s)
+laid : (s : ℕ) (l : List ℕ) → length l ≤ s → splice (ff s) 0 l ≡ take s (l ++ ff s)
 unfolding splice
-laid s l = go (decLe s (length l))
-  where
-    go : Dec (s ≤ length l) → take (min s (length l)) l ++ drop (0 + length (take (min s (length l)) l)) (ff s) ≡ take s (l ++ ff s)
-    go (yes h) =
-        let e : min s (length l) ≡ s = omega arith in
-        rw (e, length-take-le s l h, zero-add s, drop-of-length-le (ff s) {i = s} (omega (arith, length-ff s)), append-nil (take s l), take-append-le s l (ff s) h)
-    go (no h) =
-        let e : min s (length l) ≡ length l = omega arith in
-        let split : s ≡ length l + (s - length l) = omega arith in
-        rw (e, take-length l, zero-add (length l), rest-ff s (length l) (omega arith))
-        (sym (ap (λ (k : ℕ). take k (l ++ ff s)) split ∙ take-append-add l (ff s) (s - length l)
-        ∙ ap (λ (m : List ℕ). l ++ m) (front-ff s (s - length l) (omega arith))))
+laid s l h =
+    let split : s ≡ length l + (s - length l) = omega arith in
+    rw (zero-add (length l), rest-ff s (length l) h)
+    (sym (ap (λ (k : ℕ). take k (l ++ ff s)) split ∙ take-append-add l (ff s) (s - length l)
+    ∙ ap (λ (m : List ℕ). l ++ m) (front-ff s (s - length l) (omega arith))))
 
--- page o of a log is what there is of its bytes, laid over a page of FF
-pub page-laid : (z : Sizes) (bytes : List ℕ) (o : ℕ)
-    → splice (ff (z .s)) 0 (part bytes (o * z .s) (min (z .s) (length bytes - o * z .s))) ≡ pageBytes z bytes o
-unfolding part pageBytes
-page-laid z bytes o =
-    ap (λ (n : ℕ). splice (ff (z .s)) 0 (take (min (z .s) n) (drop (o * z .s) bytes))) (sym (length-drop (o * z .s) bytes)) ∙ laid (z .s) (drop (o * z .s) bytes)
+module _ (z : Sizes) (bytes : List ℕ) (o : ℕ) where
+  -- a whole page is a part of the log
+  pub page-whole : o * z .s + z .s ≤ length bytes → part bytes (o * z .s) (z .s) ≡ pageBytes z bytes o
+  unfolding part pageBytes
+  page-whole h = sym (take-append-le (z .s) (drop (o * z .s) bytes) (ff (z .s)) (simp length-drop (omega arith)))
+
+  -- the last one is what there is of its bytes, laid over a page of FF
+  pub page-laid : length bytes ≤ o * z .s + z .s → splice (ff (z .s)) 0 (take (length bytes - o * z .s) (drop (o * z .s) bytes)) ≡ pageBytes z bytes o
+  unfolding pageBytes
+  page-laid h =
+      let rest = drop (o * z .s) bytes in
+      ap (splice (ff (z .s)) 0) (take-all (length bytes - o * z .s) rest (simp length-drop (omega arith))) ∙ laid (z .s) rest (simp length-drop (omega arith))

@@ -3,12 +3,17 @@ use Prim.Native.Nat.{ℕ, _+_, _≤_, _<_}
 use mathlib.Core.List.{List}
 use Rattle.model.specs.declared.Sizes.{Sizes}
 use Rattle.model.specs.Sizes.{pagesFor}
-use Rattle.model.specs.Stores.{Store}
+use Rattle.model.specs.Spare.{tagBytes}
+use Rattle.model.specs.Stores.{Store, program}
 use Rattle.model.specs.Steps.{logStore, logStores}
 use Rattle.model.proofs.Limits.{Limits}
 use Rattle.log.specs.declared.Log.{Log}
 
 module _ (z : Sizes) (log : Log) where
+  -- page o of a log of n bytes, by the page's own bytes
+  abbrev pub storeOf : (n o : ℕ) → List ℕ → Store
+  storeOf n o page = program (log .bucket) (log .first + o) page (tagBytes (log .kind) o (pagesFor z n) (log .epoch) (log .back) (log .offset) n)
+
   abbrev pub pageStore : List ℕ → ℕ → Store
   pageStore = logStore z (log .bucket) (log .first) (log .kind) (log .epoch) (log .back) (log .offset)
 

@@ -4,15 +4,15 @@ use meter::Meter;
 use model::Sizes;
 use spare::Fields;
 ghost use mathlib.Core.Path.{_≡_};
-ghost use Prim.Native.Nat.{_*_, _≤_, _<_, min};
+ghost use Prim.Native.Nat.{_+_, _*_, _≤_, _<_};
 ghost use lib.ListN.{length};
 ghost use Rattle.model.specs.Sizes.{pagesFor};
 ghost use Rattle.model.specs.Spare.{tagBytes};
-ghost use Rattle.model.specs.Stores.{pageBytes};
+ghost use Rattle.lists.specs.Lists.{ff};
 ghost use Rattle.spare.specs.Fields.{tag};
 ghost use Rattle.geometry.specs.Geometry.{Lent};
 ghost use Rattle.meter.specs.Run.{running, step, runAll};
-ghost use Rattle.log.specs.Logs.{pageStore, allStores, Fits};
+ghost use Rattle.log.specs.Logs.{storeOf, pageStore, allStores, Fits};
 
 // Where a log goes, from page `first` of a cache bucket on, and what its spare bytes say.
 pub struct Log {
@@ -22,24 +22,6 @@ pub struct Log {
     pub epoch: u32,
     pub back: u16,
     pub offset: u16,
-}
-
-fn smaller(a: usize, b: usize) -> usize
-    ensures { λ r. ⌜ r ≡ min a b ⌝ }
-{
-    if a < b { a } else { b }
-}
-
-// Page o of a log's bytes; the last page is filled with FF.
-fn page_bytes(z: Sizes, bytes: &[u8], o: usize, page: &mut [u8])
-    requires { ⌜ (o * z .s ≤ length (now bytes)) × (length (now page) ≡ z .s) ⌝ }
-    ensures { λ _. ⌜ now (page .exit) ≡ pageBytes z (now (bytes .entry)) o ⌝ }
-{
-    let at = o * z.s;
-    let count = smaller(z.s, bytes.len() - at);
-    let end = at + count;
-    area::fill(page, 255);
-    area::write_at(page, 0, &bytes[at..end]);
 }
 
 // What the spare bytes of page o of a log of n bytes say.
@@ -60,25 +42,24 @@ fn page_fields(z: Sizes, log: Log, n: usize, o: usize) -> Fields
     }
 }
 
-// Programs page o, put together in a lent page of S bytes.
-fn program_by(
+// Programs page o of a log of n bytes; the page is lent.
+fn program_lent(
     meter: Meter,
     z: Sizes,
     log: Log,
-    bytes: &[u8],
+    n: usize,
     o: usize,
-    page: &mut [u8],
+    page: &[u8],
     flash: &mut [u8],
     spare: &mut [u8],
     disk: &mut [u8],
 ) -> Meter
     requires { ⌜ Lent z (now flash) (now spare) (now disk) ⌝ }
-    requires { ⌜ Fits z log (length (now bytes)) × (o < pagesFor z (length (now bytes))) × (length (now page) ≡ z .s) ⌝ }
-    ensures { λ r. ⌜ running (now (flash .exit)) (now (spare .exit)) (now (disk .exit)) r ≡ step z (pageStore z log (now (bytes .entry)) o) (running (now (flash .entry)) (now (spare .entry)) (now (disk .entry)) meter) ⌝ }
+    requires { ⌜ Fits z log n × (o < pagesFor z n) × (length (now page) ≡ z .s) ⌝ }
+    ensures { λ r. ⌜ running (now (flash .exit)) (now (spare .exit)) (now (disk .exit)) r ≡ step z (storeOf z log n o (now (page .entry))) (running (now (flash .entry)) (now (spare .entry)) (now (disk .entry)) meter) ⌝ }
     ensures { λ _. ⌜ Lent z (now (flash .exit)) (now (spare .exit)) (now (disk .exit)) ⌝ }
 {
-    page_bytes(z, bytes, o, page);
-    let fields = page_fields(z, log, bytes.len(), o);
+    let fields = page_fields(z, log, n, o);
     let tag = spare::encode(fields);
     let at = log.first + o;
     meter::store(
@@ -96,7 +77,60 @@ fn program_by(
     )
 }
 
-// Page o of the log; a page has at most 1,024 bytes.
+// What there is of page o is laid over a lent page of FF.
+fn program_over(
+    meter: Meter,
+    z: Sizes,
+    log: Log,
+    bytes: &[u8],
+    o: usize,
+    page: &mut [u8],
+    flash: &mut [u8],
+    spare: &mut [u8],
+    disk: &mut [u8],
+) -> Meter
+    requires { ⌜ Lent z (now flash) (now spare) (now disk) ⌝ }
+    requires { ⌜ Fits z log (length (now bytes)) × (o < pagesFor z (length (now bytes))) × (length (now bytes) ≤ o * z .s + z .s) × (now page ≡ ff (z .s)) ⌝ }
+    ensures { λ r. ⌜ running (now (flash .exit)) (now (spare .exit)) (now (disk .exit)) r ≡ step z (pageStore z log (now (bytes .entry)) o) (running (now (flash .entry)) (now (spare .entry)) (now (disk .entry)) meter) ⌝ }
+    ensures { λ _. ⌜ Lent z (now (flash .exit)) (now (spare .exit)) (now (disk .exit)) ⌝ }
+{
+    let from = o * z.s;
+    area::write_at(page, 0, &bytes[from..]);
+    program_lent(meter, z, log, bytes.len(), o, page, flash, spare, disk)
+}
+
+// The last page, where it is partial; a page has at most 1,024 bytes.
+fn program_last(
+    meter: Meter,
+    z: Sizes,
+    log: Log,
+    bytes: &[u8],
+    o: usize,
+    flash: &mut [u8],
+    spare: &mut [u8],
+    disk: &mut [u8],
+) -> Meter
+    requires { ⌜ Lent z (now flash) (now spare) (now disk) ⌝ }
+    requires { ⌜ Fits z log (length (now bytes)) × (o < pagesFor z (length (now bytes))) × (length (now bytes) ≤ o * z .s + z .s) ⌝ }
+    ensures { λ r. ⌜ running (now (flash .exit)) (now (spare .exit)) (now (disk .exit)) r ≡ step z (pageStore z log (now (bytes .entry)) o) (running (now (flash .entry)) (now (spare .entry)) (now (disk .entry)) meter) ⌝ }
+    ensures { λ _. ⌜ Lent z (now (flash .exit)) (now (spare .exit)) (now (disk .exit)) ⌝ }
+{
+    let mut page = [255u8; 1024];
+    let size = z.s;
+    program_over(
+        meter,
+        z,
+        log,
+        bytes,
+        o,
+        &mut page[..size],
+        flash,
+        spare,
+        disk,
+    )
+}
+
+// Page o of the log; a whole page needs no copy of its bytes.
 fn program_page(
     meter: Meter,
     z: Sizes,
@@ -112,19 +146,13 @@ fn program_page(
     ensures { λ r. ⌜ running (now (flash .exit)) (now (spare .exit)) (now (disk .exit)) r ≡ step z (pageStore z log (now (bytes .entry)) o) (running (now (flash .entry)) (now (spare .entry)) (now (disk .entry)) meter) ⌝ }
     ensures { λ _. ⌜ Lent z (now (flash .exit)) (now (spare .exit)) (now (disk .exit)) ⌝ }
 {
-    let mut page = [255u8; 1024];
-    let size = z.s;
-    program_by(
-        meter,
-        z,
-        log,
-        bytes,
-        o,
-        &mut page[..size],
-        flash,
-        spare,
-        disk,
-    )
+    let n = bytes.len();
+    let from = o * z.s;
+    let to = from + z.s;
+    if n < to {
+        return program_last(meter, z, log, bytes, o, flash, spare, disk);
+    }
+    program_lent(meter, z, log, n, o, &bytes[from..to], flash, spare, disk)
 }
 
 // All pages of the log, in rising order.
