@@ -1,6 +1,6 @@
 -- A write's log in its place, and the write accepted.
 use Prim.Native.Nat.{ℕ, _-_, _≤_}
-use mathlib.Core.Path.{_≡_, refl, ap, _∙_}
+use mathlib.Core.Path.{_≡_, refl, _∙_}
 use mathlib.Core.List.{List}
 use native.Mathlib.Omega.{arith}
 use lib.ListN.{length}
@@ -18,9 +18,11 @@ use Rattle.image.proofs.SameSpare.{same-blanks, same-epoch}
 use Rattle.meter.specs.Run.{Run, runAll}
 use Rattle.state.specs.View.{Bounded}
 use Rattle.state.proofs.Bounds.{take-write-bounded}
-use Rattle.steps.specs.Turns.{Progress, after}
+use Rattle.steps.specs.Turns.{after}
+use Rattle.steps.specs.Ready.{Ready}
 use Rattle.steps.proofs.Kept.{Roomed}
-use Rattle.copying.specs.Fresh.{freshLog}
+use Rattle.copying.specs.Fresh.{roomOf, freshStores}
+use Rattle.copying.proofs.Copied.{fresh-by}
 use Rattle.arrival.specs.Arrives.{Starts}
 
 -- a bucket has no more blank pages than pages
@@ -39,12 +41,12 @@ unfolding after appendLog
 appended-by z b off bytes s r w left e pages is-bucket is-left is-epoch is-pages =
     rw (is-pages, is-epoch ∙ same-epoch z (r .device) w, is-left ∙ same-blanks z (r .device) w, is-bucket)
 
-pub started-by : (z : Sizes) (b off : ℕ) (bytes : List ℕ) (s : State) (r : Run) (pages : ℕ) {p : Progress} → p ≡ after z (freshLog z writeKind b off bytes) s r
-    → pages ≡ pagesFor z (length bytes)
-    → record { run = p .run; state = accept b (z .p - pages) (takeWrite b (p .state)) } ≡ after z (makeRoom z then startLog z b off bytes) s r
-unfolding after freshLog startLog _then_
-started-by z b off bytes s r pages e h =
-    ap (λ (q : Progress). record { run = q .run; state = accept b (z .p - pages) (takeWrite b (q .state)) }) e ∙ rw h
+pub started-by : (z : Sizes) (s : State) (r : Run) → Ready s → (b off : ℕ) (bytes : List ℕ) (pages : ℕ) {run : Run} {t : State}
+    → run ≡ runAll z (freshStores z (roomOf s) writeKind b off bytes) r → t ≡ makeRoom z s (r .device) .state → pages ≡ pagesFor z (length bytes)
+    → record { run = run; state = accept b (z .p - pages) (takeWrite b t) } ≡ after z (makeRoom z then startLog z b off bytes) s r
+unfolding startLog
+started-by z s r ready b off bytes pages e h is-pages =
+    rw is-pages (fresh-by z s r (λ t. accept b (z .p - pagesFor z (length bytes)) (takeWrite b t)) ready writeKind b off bytes e h)
 
 pub arrival-bounded : {s t : State} {n : ℕ} (b : ℕ) → Starts s n → Roomed s t → Bounded (takeWrite b t)
 arrival-bounded {s} {t} b starts r =

@@ -88,9 +88,10 @@ pub fn start_log(
     let z = s.sizes;
     let pages = geometry::pages_for(z, bytes.len());
     let priority = (z.p - pages) as u8;
-    let fresh = copying::fresh_log(meter, s, 2, b, offset, bytes, flash, spare, disk);
-    let left = fresh.meter;
-    let arrived = fresh.state.take_write(b);
+    let room = copying::room_of(s);
+    let left = copying::fresh_log(meter, z, room, 2, b, offset, bytes, flash, spare, disk);
+    let roomed = s.roomed();
+    let arrived = roomed.take_write(b);
     let state = arrived.accept(b, priority);
     Turn { meter: left, state }
 }

@@ -1,21 +1,25 @@
 -- What a log in a bucket just allocated leaves, and the copy made of it.
 use Prim.Native.Nat.{ℕ, _<_}
-use mathlib.Core.Path.{_≡_, refl, sym, ap, _∙_}
-use mathlib.Core.List.{List}
+use mathlib.Core.Path.{_≡_, refl, sym}
+use mathlib.Core.Bool.{true, false, true≢false}
+use mathlib.Core.Logic.{_⊎_, inl, inr}
+use mathlib.Core.List.{List, [], _∷_}
 use native.Mathlib.Nat.{mul-le-mul}
 use native.Mathlib.Omega.{arith}
 use lib.ListN.{length}
-use Rattle.lists.specs.Lists.{head}
+use Rattle.lists.specs.Lists.{empty, head}
+use Rattle.lists.proofs.Tests.{true-or-false}
 use Rattle.model.specs.declared.Sizes.{Sizes}
-use Rattle.model.specs.Sizes.{bucketSize}
-use Rattle.model.specs.State.{State, without}
-use Rattle.model.specs.Steps.{Step, _then_, makeRoom, takeCopy, logStores, fillCopy, copy}
+use Rattle.model.specs.Sizes.{Device, bucketSize}
+use Rattle.model.specs.State.{State, moved, without}
+use Rattle.model.specs.Steps.{_then_, nothing, freed, eraseStep, makeRoom, takeCopy, logStores, fillCopy, copy}
+use Rattle.model.proofs.Limits.{on-chip}
 use Rattle.meter.specs.Run.{Run, runAll}
-use Rattle.steps.specs.Turns.{Progress, after}
+use Rattle.steps.specs.Turns.{after}
 use Rattle.steps.specs.Ready.{Orderly, Ready}
-use Rattle.steps.proofs.Kept.{Roomed, roomed, copied-orderly}
-use Rattle.steps.proofs.Turns.{Steady, then-steady, room-steady, after-then}
-use Rattle.copying.specs.Fresh.{Fresh, Copies, freshLog}
+use Rattle.steps.proofs.Kept.{Roomed, roomed, free-head, copied-orderly}
+use Rattle.steps.proofs.Turns.{Steady, then-steady, room-steady}
+use Rattle.copying.specs.Fresh.{roomOf, erases, freshStores, Takes, Fresh, Copies}
 
 -- a copy is a log of a whole bucket
 pub copy-fresh : {s : State} {b n : ℕ} → Copies s b n → Fresh s n
@@ -24,28 +28,53 @@ copy-fresh c =
     let limits = c .ready .orderly .limits in
     record { ready = c .ready; epoch = c .epoch; some = omega (arith, c .whole, mul-le-mul (limits .p-low) (limits .s-low)); room = omega (arith, c .whole) }
 
-module _ (z : Sizes) (s : State) (r : Run) {p : Progress} (e : p ≡ after z (makeRoom z) s r) where
-  pub room-left : Ready s → Roomed s (p .state)
-  unfolding after
-  room-left ready = rw (ap (λ (q : Progress). q .state) e) (roomed s ready z (r .device))
+no-entry : (l : List ℕ) → empty l ≡ true → l ≡ []
+unfolding empty
+no-entry [] h = refl
+no-entry (x ∷ l) h = absurd (true≢false (sym h))
 
-  pub logged-by : s .sizes ≡ z → (k b off : ℕ) (bytes : List ℕ)
-      → record { run = runAll z (logStores z (head (p .state .free)) 0 k (p .state .next) b off bytes) (p .run); state = p .state }
-      ≡ after z (freshLog z k b off bytes) s r
-  unfolding after freshLog
-  logged-by sized k b off bytes =
-      let log : Step = λ t d. record { stores = logStores z (head (t .free)) 0 k (t .next) b off bytes; state = t } in
-      ap (λ (q : Progress). after z log (q .state) (q .run)) e ∙ sym (after-then z (makeRoom z) log (λ t d e. refl) s r sized)
+module _ (z : Sizes) (s : State) (d : Device) where
+  -- the room is the one that makeRoom plans
+  room-erases : makeRoom z s d .stores ≡ erases (roomOf s)
+  unfolding makeRoom eraseStep nothing erases roomOf
+  room-erases = go (true-or-false (empty (s .free))) (true-or-false (empty (s .gc)))
+    where
+      go : (empty (s .free) ≡ true) ⊎ (empty (s .free) ≡ false) → (empty (s .gc) ≡ true) ⊎ (empty (s .gc) ≡ false) → makeRoom z s d .stores ≡ erases (roomOf s)
+      go (inr e) g = rw e
+      go (inl e) (inl g) = rw (e, g)
+      go (inl e) (inr g) = rw (e, g)
 
-module _ (z : Sizes) (k b off : ℕ) (bytes : List ℕ) (s : State) (r : Run) {p : Progress} (e : p ≡ after z (freshLog z k b off bytes) s r) where
-  pub log-left : Ready s → Roomed s (p .state)
-  unfolding after freshLog _then_
-  log-left ready = rw (ap (λ (q : Progress). q .state) e) (roomed s ready z (r .device))
+  room-bucket : head (makeRoom z s d .state .free) ≡ roomOf s .bucket
+  unfolding makeRoom eraseStep nothing freed moved roomOf head
+  room-bucket = go (true-or-false (empty (s .free))) (true-or-false (empty (s .gc)))
+    where
+      go : (empty (s .free) ≡ true) ⊎ (empty (s .free) ≡ false) → (empty (s .gc) ≡ true) ⊎ (empty (s .gc) ≡ false) → head (makeRoom z s d .state .free) ≡ roomOf s .bucket
+      go (inr e) g = rw e
+      go (inl e) (inl g) = rw (e, g, no-entry (s .free) e, no-entry (s .gc) g)
+      go (inl e) (inr g) = rw (e, g, no-entry (s .free) e)
 
-pub copied-by : (z : Sizes) (k b : ℕ) (bytes : List ℕ) (s : State) (r : Run) {p : Progress} → p ≡ after z (freshLog z k b 0 bytes) s r
-    → record { run = p .run; state = takeCopy b (p .state) } ≡ after z (copy z k b bytes) s r
-unfolding after freshLog copy fillCopy _then_
-copied-by z k b bytes s r e = ap (λ (q : Progress). record { run = q .run; state = takeCopy b (q .state) }) e
+  pub takes : {n : ℕ} → Fresh s n → Takes (s .sizes) (roomOf s) n
+  takes f = record {
+    limits = f .ready .orderly .limits;
+    bucket = rw room-bucket at (on-chip (s .sizes) _ (free-head (roomed s (f .ready) z d)));
+    some = f .some;
+    most = f .room;
+  }
+
+-- the state moves by m once the log is in its room
+pub fresh-by : (z : Sizes) (s : State) (r : Run) (m : State → State) → Ready s → (k b off : ℕ) (bytes : List ℕ) {run : Run} {t : State}
+    → run ≡ runAll z (freshStores z (roomOf s) k b off bytes) r → t ≡ makeRoom z s (r .device) .state
+    → record { run = run; state = m t }
+    ≡ after z (makeRoom z then (λ t d. record { stores = logStores z (head (t .free)) 0 k (t .next) b off bytes; state = m t })) s r
+unfolding after _then_ freshStores roomOf
+fresh-by z s r m ready k b off bytes e h =
+    rw (e, h, room-erases z s (r .device), room-bucket z s (r .device), roomed s ready z (r .device) .next)
+
+pub copied-by : (z : Sizes) (s : State) (r : Run) → Ready s → (k b : ℕ) (bytes : List ℕ) {run : Run} {t : State}
+    → run ≡ runAll z (freshStores z (roomOf s) k b 0 bytes) r → t ≡ makeRoom z s (r .device) .state
+    → record { run = run; state = takeCopy b t } ≡ after z (copy z k b bytes) s r
+unfolding copy fillCopy
+copied-by z s r ready k b bytes = fresh-by z s r (takeCopy b) ready k b 0 bytes
 
 -- the state that a copy leaves goes by the state alone
 pub copy-steady : (z : Sizes) (k b : ℕ) (bytes : List ℕ) → Steady (copy z k b bytes)

@@ -1,18 +1,40 @@
--- Logs in a bucket just allocated: when one can be made, and its plan.
+-- Logs in a bucket just allocated: when one can be made, and its stores.
 use Prim.Native.Nat.{ℕ, _≤_, _<_}
 use mathlib.Core.Path.{_≡_}
-use mathlib.Core.List.{List}
+use mathlib.Core.Bool.{not, _&&_}
+use mathlib.Core.List.{List, [], _∷_, _++_}
 use lib.ListN.{length}
-use Rattle.lists.specs.Lists.{head}
+use Rattle.lists.specs.Lists.{if_then_else_, head, empty}
 use Rattle.model.specs.declared.Sizes.{Sizes}
 use Rattle.model.specs.Sizes.{bucketSize}
+use Rattle.model.specs.Stores.{Store, erase}
 use Rattle.model.specs.State.{State, without}
-use Rattle.model.specs.Steps.{Step, _then_, makeRoom, logStores}
+use Rattle.model.specs.Steps.{logStores}
+use Rattle.model.proofs.Limits.{Limits}
 use Rattle.steps.specs.Ready.{Ready}
+use Rattle.copying.specs.declared.Room.{Room}
 
--- the log goes into the free head, which stays in the queue
-unfoldable pub freshLog : Sizes → (kind b off : ℕ) → List ℕ → Step
-freshLog z k b off bytes = makeRoom z then (λ t d. record { stores = logStores z (head (t .free)) 0 k (t .next) b off bytes; state = t })
+-- the room that an allocation finds, and the epoch that it gets
+unfoldable pub roomOf : State → Room
+roomOf s = record {
+  erase = empty (s .free) && not (empty (s .gc));
+  bucket = if empty (s .free) then head (s .gc) else head (s .free);
+  epoch = s .next;
+}
+
+unfoldable pub erases : Room → List Store
+erases room = if room .erase then erase (room .bucket) ∷ [] else []
+
+-- the room, once it is blank, and the log in it
+unfoldable pub freshStores : Sizes → Room → (kind b off : ℕ) → List ℕ → List Store
+freshStores z room k b off bytes = erases room ++ logStores z (room .bucket) 0 k (room .epoch) b off bytes
+
+-- a log of n bytes goes into a bucket of the chip
+pub record Takes (z : Sizes) (room : Room) (n : ℕ) : Type 0 where
+  pub limits : Limits z
+  pub bucket : room .bucket < z .c
+  pub some : 1 ≤ n
+  pub most : n ≤ bucketSize z
 
 -- n bytes have room in a bucket, and the next epoch is one that spare bytes can say
 pub record Fresh (s : State) (n : ℕ) : Type 0 where

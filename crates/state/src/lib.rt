@@ -8,8 +8,9 @@ ghost use Prim.Native.Nat.{_+_};
 ghost use lib.Dec.{leb};
 ghost use Rattle.lists.specs.Lists.{if_then_else_};
 ghost use Rattle.lists.specs.Arrays.{joined};
+ghost use Rattle.model.specs.Sizes.{Device};
 ghost use Rattle.model.specs.State.{entry, cachesOf, without};
-ghost use Rattle.model.specs.Steps.{freed, taken, dropWrite, takeCopy};
+ghost use Rattle.model.specs.Steps.{freed, makeRoom, taken, dropWrite, takeCopy};
 ghost use Rattle.model.specs.Operations.{halved, counted, accept, takeWrite, touch, withoutOldest};
 ghost use Rattle.fifo.specs.View.{listOf};
 ghost use Rattle.queue.specs.View.{entriesOf};
@@ -61,6 +62,19 @@ impl State {
         let free = self.free.push(head);
         self.gc = gc;
         self.free = free;
+        self
+    }
+
+    // Allocate's room: with an empty free queue, the GC head joins it.
+    pub fn roomed(self) -> Self
+        requires { ⌜ Bounded (viewOf self) ⌝ }
+        ensures { λ r. ⌜ ((d : Device) → viewOf r ≡ makeRoom (self .sizes) (viewOf self) d .state) ⌝ }
+    {
+        if self.free.used() == 0 {
+            if self.gc.used() != 0 {
+                return self.freed();
+            }
+        }
         self
     }
 

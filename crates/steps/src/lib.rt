@@ -1,8 +1,8 @@
-// An operation under way, and the steps that others begin with.
+// An operation under way, and the erase step.
 use meter::Meter;
 use state::State;
 ghost use mathlib.Core.Path.{_≡_};
-ghost use Rattle.model.specs.Steps.{eraseStep, makeRoom};
+ghost use Rattle.model.specs.Steps.{eraseStep};
 ghost use Rattle.geometry.specs.Geometry.{Lent};
 ghost use Rattle.meter.specs.Run.{running};
 ghost use Rattle.state.specs.View.{viewOf};
@@ -36,24 +36,4 @@ pub fn erase_step(
     let left = meter::erase_bucket(meter, s.sizes, head, flash, spare, disk);
     let state = s.freed();
     Turn { meter: left, state }
-}
-
-// With an empty free queue, the erase step.
-pub fn make_room(
-    meter: Meter,
-    s: State,
-    flash: &mut [u8],
-    spare: &mut [u8],
-    disk: &mut [u8],
-) -> Turn
-    requires { ⌜ Lent (s .sizes) (now flash) (now spare) (now disk) ⌝ }
-    requires { ⌜ Orderly (viewOf s) ⌝ }
-    ensures { λ r. ⌜ reached (now (flash .exit)) (now (spare .exit)) (now (disk .exit)) r ≡ after (s .sizes) (makeRoom (s .sizes)) (viewOf s) (running (now (flash .entry)) (now (spare .entry)) (now (disk .entry)) meter) ⌝ }
-    ensures { λ _. ⌜ Lent (s .sizes) (now (flash .exit)) (now (spare .exit)) (now (disk .exit)) ⌝ }
-{
-    let n = s.free.used();
-    if n == 0 {
-        return erase_step(meter, s, flash, spare, disk);
-    }
-    Turn { meter, state: s }
 }

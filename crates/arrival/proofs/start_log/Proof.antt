@@ -1,11 +1,14 @@
-use Rattle.arrival.proofs.Arrived.{started-by, arrival-bounded}
-use Rattle.copying.proofs.Copied.{log-left}
-use Rattle.state.specs.View.{viewOf}
-use Rattle.geometry.proofs.Passed.{products}
-use Rattle.model.proofs.Limits.{pages-fit}
-use Rattle.model.specs.Sizes.{bucketSize}
-use lib.ListN.{length}
 use native.Mathlib.Omega.{arith}
+use lib.ListN.{length}
+use Rattle.model.specs.Sizes.{bucketSize}
+use Rattle.model.proofs.Limits.{pages-fit}
+use Rattle.meter.specs.Run.{running}
+use Rattle.geometry.proofs.Passed.{products}
+use Rattle.geometry.specs.Geometry.{device}
+use Rattle.state.specs.View.{viewOf}
+use Rattle.steps.proofs.Kept.{roomed}
+use Rattle.copying.proofs.Copied.{takes}
+use Rattle.arrival.proofs.Arrived.{started-by, arrival-bounded}
 use borrow.Author.Needs.{needs}
 use Rattle.arrival.proofs.start_log.Statement.{statement}
 use Rattle.arrival.proofs.start_log.Tie as tie
@@ -24,12 +27,22 @@ sub-priority c = let start = c .before .before .before .before .before .before .
 cast-priority : tie.Need-cast-priority
 cast-priority c = omega (arith, c .before .before .before .before .before .before .before .pre .1 .fresh .ready .orderly .limits .p-high)
 
+room-of-requires : tie.Need-room-of-requires
+room-of-requires c κs = search needs
+
 fresh-log-requires : tie.Need-fresh-log-requires
-fresh-log-requires c κs = (c .before .before .before .before .before .before .before .before .before .before .pre .0, c .before .before .before .before .before .before .before .before .before .before .pre .1 .fresh)
+fresh-log-requires c κs = let start = c .before .before .before .before .before .before .before .before .before .before .before in
+    let a = start .args in
+    (start .pre .0, rw (c .before .before .before .room-of .ensures) (takes (a .s .sizes) (viewOf (a .s)) (device (a .flash .now) (a .spare .now) (a .disk .now)) (start .pre .1 .fresh)))
+
+roomed-requires : tie.Need-roomed-requires
+roomed-requires c κs = c .before .before .before .before .before .before .before .before .before .before .before .before .before .before .before .before .before .before .pre .1 .fresh .ready .orderly .bounded
 
 take-write-requires : tie.Need-take-write-requires
-take-write-requires c κs = let start = c .before .before .before .before .before .before .before .before .before .before .before .before .before .before .before .before .before .before in
-    arrival-bounded (start .args .b) (start .pre .1) (log-left _ _ _ _ _ _ _ (c .before .before .before .before .before .before .before .fresh-log .ensures .0) (start .pre .1 .fresh .ready))
+take-write-requires c κs = let start = c .before .before .before .before .before .before .before .before .before .before .before .before .before .before .before .before .before .before .before in
+    let a = start .args in
+    let d = device (a .flash .now) (a .spare .now) (a .disk .now) in
+    rw (c .roomed .ensures d) (arrival-bounded (a .b) (start .pre .1) (roomed (viewOf (a .s)) (start .pre .1 .fresh .ready) (a .s .sizes) d))
 
 accept-requires : tie.Need-accept-requires
 accept-requires c κs = search needs
@@ -44,11 +57,14 @@ same-length-3 : tie.Need-same-length-3
 same-length-3 c = search needs
 
 returns : tie.Need-returns
-returns c = let a = c .before .before .before .before .before .before .before .before .before .before .before .before .before .before .before .before .before .before .before .before .args in
-    let fresh = c .before .before .before .before .before .before .before .before .before .fresh-log .ensures in (
+returns c = let start = c .before .before .before .before .before .before .before .before .before .before .before .before .before .before .before .before .before .before .before .before .before in
+    let a = start .args in
+    let r = running (a .flash .now) (a .spare .now) (a .disk .now) (a .meter) in
+    let logged = c .before .before .before .before .before .before .before .before .before .fresh-log .ensures in
+    let pages = c .before .before .before .before .before .before .before .before .before .before .before .before .before .before .before .pages-for in (
       rw (c .accept .ensures, c .before .take-write .ensures)
-          (started-by (a .s .sizes) (a .b) (a .offset) (a .bytes .now) (viewOf (a .s)) _ (c .before .before .before .before .before .before .before .before .before .before .before .before .before .before .pages-for .result) (fresh .0) (c .before .before .before .before .before .before .before .before .before .before .before .before .before .before .pages-for .ensures)),
-      fresh .1,
+          (started-by (a .s .sizes) (viewOf (a .s)) r (start .pre .1 .fresh .ready) (a .b) (a .offset) (a .bytes .now) (pages .result) (rw (c .before .before .before .before .before .before .before .before .before .before .before .before .before .room-of .ensures) at (logged .0)) (c .before .before .roomed .ensures (r .device)) (pages .ensures)),
+      logged .1,
     )
 
 pub start-log-spec : {M : Type 1} → statement M
@@ -58,7 +74,9 @@ start-log-spec =
     pages-for-requires
     sub-priority
     cast-priority
+    room-of-requires
     fresh-log-requires
+    roomed-requires
     take-write-requires
     accept-requires
     same-length

@@ -1,35 +1,52 @@
-use Rattle.copying.proofs.Copied.{copy-fresh, log-left, copied-by, copied-left}
+use Rattle.meter.specs.Run.{running}
 use Rattle.state.specs.View.{viewOf}
-use native.Mathlib.Omega.{arith}
+use Rattle.geometry.specs.Geometry.{device}
+use Rattle.steps.proofs.Kept.{roomed}
+use Rattle.copying.proofs.Copied.{copy-fresh, takes, copied-by, copied-left}
+use borrow.Author.Needs.{needs}
 use Rattle.copying.proofs.copy.Statement.{statement}
 use Rattle.copying.proofs.copy.Tie as tie
 
+room-of-requires : tie.Need-room-of-requires
+room-of-requires c κs = search needs
+
 fresh-log-requires : tie.Need-fresh-log-requires
-fresh-log-requires c κs = (c .before .before .before .before .before .before .before .pre .0, copy-fresh (c .before .before .before .before .before .before .before .pre .1))
+fresh-log-requires c κs = let start = c .before .before .before .before .before .before .before .before in
+    let a = start .args in
+    (start .pre .0, rw (c .before .before .before .room-of .ensures) (takes (a .s .sizes) (viewOf (a .s)) (device (a .flash .now) (a .spare .now) (a .disk .now)) (copy-fresh (start .pre .1))))
+
+roomed-requires : tie.Need-roomed-requires
+roomed-requires c κs = search needs
 
 take-copy-requires : tie.Need-take-copy-requires
-take-copy-requires c κs = let p = c .before .before .before .before .before .before .before .before .before .before .before .before .before .before .before .pre in
-    copied-left (p .1) (log-left _ _ _ _ _ _ _ (c .before .before .before .before .before .before .before .fresh-log .ensures .0) (p .1 .ready)) .bounded
+take-copy-requires c κs = let start = c .before .before .before .before .before .before .before .before .before .before .before .before .before .before .before .before in
+    let a = start .args in
+    let d = device (a .flash .now) (a .spare .now) (a .disk .now) in
+    rw (c .roomed .ensures d) (copied-left (start .pre .1) (roomed (viewOf (a .s)) (start .pre .1 .ready) (a .s .sizes) d) .bounded)
 
 same-length : tie.Need-same-length
-same-length c = omega (arith, c .before .before .before .before .before .before .before .before .fresh-log .ensures .1 .flash-length, c .before .before .before .before .before .before .before .before .before .before .before .before .before .before .before .before .pre .0 .flash-length)
+same-length c = search needs
 
 same-length-2 : tie.Need-same-length-2
-same-length-2 c = omega (arith, c .before .before .before .before .before .before .before .before .fresh-log .ensures .1 .spare-length, c .before .before .before .before .before .before .before .before .before .before .before .before .before .before .before .before .pre .0 .spare-length)
+same-length-2 c = search needs
 
 same-length-3 : tie.Need-same-length-3
-same-length-3 c = omega (arith, c .before .before .before .before .before .before .before .before .fresh-log .ensures .1 .disk-length, c .before .before .before .before .before .before .before .before .before .before .before .before .before .before .before .before .pre .0 .disk-length)
+same-length-3 c = search needs
 
 returns : tie.Need-returns
-returns c = let a = c .before .before .before .before .before .before .before .before .before .before .before .before .before .before .before .before .args in
-    let fresh = c .before .before .before .before .before .before .before .before .fresh-log .ensures in
-    (rw (c .take-copy .ensures) (copied-by (a .s .sizes) (a .kind) (a .b) (a .bytes .now) (viewOf (a .s)) _ (fresh .0)), fresh .1)
+returns c = let start = c .before .before .before .before .before .before .before .before .before .before .before .before .before .before .before .before .before in
+    let a = start .args in
+    let r = running (a .flash .now) (a .spare .now) (a .disk .now) (a .meter) in
+    let logged = c .before .before .before .before .before .before .before .before .fresh-log .ensures in
+    (rw (c .take-copy .ensures) (copied-by (a .s .sizes) (viewOf (a .s)) r (start .pre .1 .ready) (a .kind) (a .b) (a .bytes .now) (rw (c .before .before .before .before .before .before .before .before .before .before .before .before .room-of .ensures) at (logged .0)) (c .before .roomed .ensures (r .device))), logged .1)
 
 pub copy-spec : {M : Type 1} → statement M
 copy-spec =
     tie.close
     (tie.spec
+    room-of-requires
     fresh-log-requires
+    roomed-requires
     take-copy-requires
     same-length
     same-length-2
