@@ -5,7 +5,7 @@ use outcome::Outcome;
 use state::State;
 use steps::Turn;
 ghost use mathlib.Core.Path.{_≡_};
-ghost use mathlib.Core.Bool.{not, _&&_};
+ghost use mathlib.Core.Bool.{not, _&&_, _||_};
 ghost use Prim.Native.Nat.{_+_, _≤_};
 ghost use lib.ListN.{length};
 ghost use Rattle.lists.specs.Lists.{if_then_else_, part};
@@ -13,7 +13,7 @@ ghost use Rattle.model.specs.Sizes.{bucketSize};
 ghost use Rattle.model.specs.Spare.{readKind, dirtyKind};
 ghost use Rattle.model.specs.State.{holds};
 ghost use Rattle.model.specs.Steps.{nothing, merged};
-ghost use Rattle.model.specs.Operations.{read};
+ghost use Rattle.model.specs.Operations.{touch, read};
 ghost use Rattle.model.specs.Calls.{readCall, carryOut, call};
 ghost use Rattle.geometry.specs.Geometry.{device, Lent};
 ghost use Rattle.meter.specs.Run.{running};
@@ -23,7 +23,7 @@ ghost use Rattle.gather.specs.Sources.{Sources};
 ghost use Rattle.steps.specs.Turns.{reached, after};
 ghost use Rattle.outcome.specs.Handed.{handedBack, handed};
 ghost use Rattle.oldest.specs.Drops.{Drops};
-ghost use Rattle.read.specs.Reads.{Reads, copyOf};
+ghost use Rattle.read.specs.Reads.{Reads, roomFor, copyOf};
 
 // Nothing is stored: the bytes asked for are gathered in the buffer itself.
 fn answer(
@@ -46,11 +46,31 @@ fn answer(
     outcome::finish(whole, allowance, Answer::Done, s, new)
 }
 
-// Read on a write miss, else Dirty.
-fn copy_kind(s: State, b: u16) -> u8
-    ensures { λ r. ⌜ r ≡ (if holds b (entriesOf (s .writes)) then dirtyKind else readKind) ⌝ }
+// Dirty beside a read or a Write bucket, else Read.
+fn copy_kind(s: State, held: bool, b: u16) -> u8
+    ensures { λ r. ⌜ r ≡ (if held || holds b (entriesOf (s .writes)) then dirtyKind else readKind) ⌝ }
 {
-    if s.writes.holds(b) { 3 } else { 1 }
+    if held | s.writes.holds(b) { 3 } else { 1 }
+}
+
+// Unless b has a read bucket, whose place the copy takes, the least recent one gives way.
+fn room_for(
+    meter: Meter,
+    s: State,
+    held: bool,
+    flash: &mut [u8],
+    spare: &mut [u8],
+    disk: &mut [u8],
+) -> Turn
+    requires { ⌜ Lent (s .sizes) (now flash) (now spare) (now disk) ⌝ }
+    requires { ⌜ Drops (viewOf s) ⌝ }
+    ensures { λ r. ⌜ reached (now (flash .exit)) (now (spare .exit)) (now (disk .exit)) r ≡ after (s .sizes) (roomFor (s .sizes) held) (viewOf s) (running (now (flash .entry)) (now (spare .entry)) (now (disk .entry)) meter) ⌝ }
+    ensures { λ _. ⌜ Lent (s .sizes) (now (flash .exit)) (now (spare .exit)) (now (disk .exit)) ⌝ }
+{
+    if held {
+        return Turn { meter, state: s };
+    }
+    oldest::drop_oldest(meter, s, flash, spare, disk)
 }
 
 // The bytes of b are programmed as its read bucket.
@@ -68,11 +88,9 @@ fn make_copy(
     ensures { λ r. ⌜ reached (now (flash .exit)) (now (spare .exit)) (now (disk .exit)) r ≡ after (s .sizes) (copyOf (s .sizes) b (now (bytes .entry))) (viewOf s) (running (now (flash .entry)) (now (spare .entry)) (now (disk .entry)) meter) ⌝ }
     ensures { λ _. ⌜ Lent (s .sizes) (now (flash .exit)) (now (spare .exit)) (now (disk .exit)) ⌝ }
 {
-    if s.reads.holds(b) {
-        return copying::copy(meter, s, 3, b, bytes, flash, spare, disk);
-    }
-    let room = oldest::drop_oldest(meter, s, flash, spare, disk);
-    let kind = copy_kind(s, b);
+    let held = s.reads.holds(b);
+    let kind = copy_kind(s, held, b);
+    let room = room_for(meter, s, held, flash, spare, disk);
     let left = room.meter;
     let state = room.state;
     copying::copy(left, state, kind, b, bytes, flash, spare, disk)
@@ -204,15 +222,25 @@ fn copy_read(
     }
 }
 
-// A read hit and write miss.
-fn hits_read_alone(s: State, b: u16) -> bool
-    ensures { λ r. ⌜ r ≡ (holds b (entriesOf (s .reads)) && not (holds b (entriesOf (s .writes)))) ⌝ }
+// With fewer than two epochs left, or on a read hit and write miss.
+fn stores_nothing(s: State, last: bool, b: u16) -> bool
+    ensures { λ r. ⌜ r ≡ (last || (holds b (entriesOf (s .reads)) && not (holds b (entriesOf (s .writes))))) ⌝ }
 {
     let read = s.reads.holds(b);
-    read & !s.writes.holds(b)
+    last | (read & !s.writes.holds(b))
 }
 
-// With fewer than two epochs left nothing is moved either.
+// A read without a store touches the read bucket; with fewer than two epochs left it moves nothing either.
+fn touched(s: State, last: bool, b: u16) -> State
+    ensures { λ r. ⌜ viewOf r ≡ (if last then viewOf s else touch b (viewOf s)) ⌝ }
+{
+    if last {
+        return s;
+    }
+    s.touch(b)
+}
+
+// Past the epoch 4,294,967,294 fewer than two are left.
 fn read_bucket(
     s: State,
     b: u16,
@@ -227,12 +255,10 @@ fn read_bucket(
     requires { ⌜ Reads (viewOf s) b offset (length (now buffer)) (now spare) ⌝ }
     ensures { λ r. ⌜ handedBack (device (now (flash .exit)) (now (spare .exit)) (now (disk .exit))) (now (buffer .exit)) r ≡ handed s (carryOut allowance (readCall b offset (now (buffer .entry))) (viewOf s) (device (now (flash .entry)) (now (spare .entry)) (now (disk .entry))) (read (s .sizes) b (viewOf s) (device (now (flash .entry)) (now (spare .entry)) (now (disk .entry))))) ⌝ }
 {
-    if 4294967294 < s.next {
-        return answer(s, s, b, offset, buffer, allowance, flash, spare, disk);
-    }
-    if hits_read_alone(s, b) {
-        let touched = s.touch(b);
-        return answer(s, touched, b, offset, buffer, allowance, flash, spare, disk);
+    let last = 4294967294 < s.next;
+    if stores_nothing(s, last, b) {
+        let new = touched(s, last, b);
+        return answer(s, new, b, offset, buffer, allowance, flash, spare, disk);
     }
     copy_read(s, b, offset, buffer, allowance, flash, spare, disk)
 }

@@ -1,6 +1,6 @@
 use borrow.Author.Needs.{needs}
-use Rattle.read.proofs.hits_read_alone.Statement.{statement}
-use Rattle.read.proofs.hits_read_alone.Tie as tie
+use Rattle.read.proofs.stores_nothing.Statement.{statement}
+use Rattle.read.proofs.stores_nothing.Tie as tie
 
 holds-requires : tie.Need-holds-requires
 holds-requires c κs = search needs
@@ -11,5 +11,5 @@ holds-requires-2 c κs = search needs
 returns : tie.Need-returns
 returns c = rw (c .holds2 .ensures, c .before .holds .ensures)
 
-pub hits-read-alone-spec : {M : Type 1} → statement M
-hits-read-alone-spec = tie.close (tie.spec holds-requires holds-requires-2 returns)
+pub stores-nothing-spec : {M : Type 1} → statement M
+stores-nothing-spec = tie.close (tie.spec holds-requires holds-requires-2 returns)
