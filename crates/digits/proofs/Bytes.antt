@@ -7,7 +7,7 @@ use native.Mathlib.Omega.{arith}
 use native.Mathlib.Decide.{decLt}
 use lib.ListN.{length, getD, List·getD-eq-default}
 use Rattle.lists.specs.Lists.{all}
-use Rattle.lists.proofs.All.{all-at}
+use Rattle.lists.proofs.Arrays.{all-at}
 use Rattle.model.specs.Driving.{digitValue, bytesOf}
 use Rattle.digits.specs.Digits.{isDigit}
 use Rattle.digits.proofs.Values.{digit-below}
@@ -38,7 +38,7 @@ pub byte-small : (l : List ℕ) (i : ℕ) → all isDigit l ≡ true → getD (b
 byte-small l i e = at (decLt i (length l / 2))
   where
     value : (j : ℕ) → j < length l → digitValue (getD l j 0) < 16
-    value j h = digit-below (getD l j 0) (all-at isDigit 0 l j e h)
+    value j h = digit-below (getD l j 0) (all-at isDigit l e j 0 h)
 
     at : Dec (i < length l / 2) → getD (bytesOf l) i 0 < 256
     at (yes h) = omega (arith, byte-at l i h, value (i * 2) (omega arith), value (i * 2 + 1) (omega arith))

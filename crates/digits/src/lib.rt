@@ -1,9 +1,9 @@
 // Bytes written as hexadecimal digits, two to a byte, and read from them.
 ghost use mathlib.Core.Path.{_≡_};
 ghost use mathlib.Core.Bool.{true};
-ghost use Prim.Native.Nat.{_+_, _*_, _≤_};
+ghost use Prim.Native.Nat.{_+_, _*_, _≤_, _<_};
 ghost use lib.ListN.{length, getD, drop};
-ghost use Rattle.lists.specs.Lists.{all, part};
+ghost use Rattle.lists.specs.Lists.{within, all, part};
 ghost use Rattle.model.specs.Spare.{two};
 ghost use Rattle.model.specs.Driving.{digitValue, bytesOf};
 ghost use Rattle.digits.specs.Digits.{isDigit};
@@ -20,18 +20,32 @@ fn digit_value(c: u8) -> u8
     }
 }
 
+fn between(low: u8, high: u8, c: u8) -> bool
+    ensures { λ r. ⌜ r ≡ within low high c ⌝ }
+{
+    (low <= c) & (c <= high)
+}
+
+fn is_digit(c: u8) -> bool
+    ensures { λ r. ⌜ r ≡ isDigit c ⌝ }
+{
+    let number = between(48, 57, c);
+    let capital = between(65, 70, c);
+    number | capital | between(97, 102, c)
+}
+
+// All are tested, with no way out at the first that is none: such a loop takes many at a time.
 pub fn all_digits(line: &[u8]) -> bool
     ensures { λ r. ⌜ r ≡ all isDigit (now (line .entry)) ⌝ }
 {
+    let mut digits = true;
     let mut i = 0;
     while i < line.len() {
-        let v = digit_value(line[i]);
-        if 16 <= v {
-            return false;
-        }
+        let digit = is_digit(line[i]);
+        digits = digits & digit;
         i += 1;
     }
-    true
+    digits
 }
 
 // Above 255 where a character is no digit.
@@ -67,6 +81,25 @@ pub fn number_at(line: &[u8], at: usize) -> usize
     }
 }
 
+// The value of a digit. A letter of either case stands 9 above its low half: no choice is made, which mixed digits would often turn.
+fn value_of(c: u8) -> u8
+    requires { ⌜ isDigit c ≡ true ⌝ }
+    ensures { λ r. ⌜ (r ≡ digitValue c) × (r < 16) ⌝ }
+{
+    c % 16 + c / 64 * 9
+}
+
+// Byte `at` of those that a line of digits says.
+fn byte_said(line: &[u8], at: usize) -> u8
+    requires { ⌜ all isDigit (now line) ≡ true ⌝ }
+    requires { ⌜ at < length (bytesOf (now line)) ⌝ }
+    ensures { λ r. ⌜ r ≡ getD (bytesOf (now (line .entry))) at 0 ⌝ }
+{
+    let high = value_of(line[at * 2]);
+    let low = value_of(line[at * 2 + 1]);
+    high * 16 + low
+}
+
 // The bytes from byte `from` on, as many as `out` has room for.
 pub fn decode(line: &[u8], from: usize, out: &mut [u8])
     requires { ⌜ all isDigit (now line) ≡ true ⌝ }
@@ -75,8 +108,7 @@ pub fn decode(line: &[u8], from: usize, out: &mut [u8])
 {
     let mut i = 0;
     while i < out.len() {
-        let b = byte_at(line, from + i);
-        out[i] = b as u8;
+        out[i] = byte_said(line, from + i);
         i += 1;
     }
 }

@@ -1,7 +1,6 @@
 pub mod Tests
 pub mod Rows
 pub mod Parts
-pub mod All
 pub mod Lent
 pub mod Turns
 pub mod Counts

@@ -1,33 +1,31 @@
 -- `digits::all_digits` meets its contract.
-use mathlib.Core.Path.{_≡_, refl, sym, _∙_}
+use mathlib.Core.Path.{_≡_, refl, sym, ap, _∙_}
 use Prim.Native.Nat.{_≤_, _-_}
 use native.Mathlib.Omega.{arith}
 use borrow.Author.Needs.{needs}
-use lib.ListN.{length, drop}
-use Rattle.lists.proofs.All.{all-next, all-stop, all-end}
+use lib.ListN.{length, take}
+use lib.Seq.{take-all}
+use Rattle.lists.proofs.Arrays.{tested-more}
 use Rattle.lists.specs.Lists.{all}
-use Rattle.digits.proofs.Values.{digit, no-digit}
 use Rattle.digits.specs.Digits.{isDigit}
 use Rattle.digits.proofs.all_digits.Statement.{statement}
 use Rattle.digits.proofs.all_digits.Tie as tie
 
 abbrev Inv-loop : tie.InvT-loop
-Inv-loop line i₀ i = (i ≤ length line) × (all isDigit line ≡ all isDigit (drop i line))
+Inv-loop line digits₀ i₀ digits i = (i ≤ length line) × (digits ≡ all isDigit (take i line))
 
 abbrev μ-loop : tie.MeasureT-loop
-μ-loop line i₀ i = length line - i
+μ-loop line digits₀ i₀ digits i = length line - i
 
 loop-holds : tie.Need-loop-holds Inv-loop μ-loop
+unfolding all
 loop-holds c = (omega arith, refl)
 
-shared-slice-read-digit-value : tie.Need-shared-slice-read-digit-value Inv-loop μ-loop
-shared-slice-read-digit-value c = search needs
+shared-slice-read-is-digit : tie.Need-shared-slice-read-is-digit Inv-loop μ-loop
+shared-slice-read-is-digit c = search needs
 
-digit-value-requires : tie.Need-digit-value-requires Inv-loop μ-loop
-digit-value-requires c κs = search needs
-
-returns : tie.Need-returns Inv-loop μ-loop
-returns c = sym (c .before .before .before .before .loop .inv .1 ∙ all-stop isDigit 0 (c .before .before .before .before .before .before .args .line .now) (c .before .before .before .before .loop .i) (omega arith) (no-digit _ (rw (c .before .digit-value .ensures) at (c .if1 .taken))))
+is-digit-requires : tie.Need-is-digit-requires Inv-loop μ-loop
+is-digit-requires c κs = search needs
 
 add-i : tie.Need-add-i Inv-loop μ-loop
 add-i c = search needs
@@ -36,10 +34,13 @@ loop-less : tie.Need-loop-less Inv-loop μ-loop
 loop-less c = search needs
 
 loop-again : tie.Need-loop-again Inv-loop μ-loop
-loop-again c = (omega arith, c .before .before .before .before .loop .inv .1 ∙ all-next isDigit 0 (c .before .before .before .before .before .before .args .line .now) (c .before .before .before .before .loop .i) (omega arith) (digit _ (rw (c .before .digit-value .ensures) at (c .if1 .left))))
+loop-again c = let l = c .before .before .before .loop in
+    let line = c .before .before .before .before .before .args .line .now in
+    (omega arith, rw (l .inv .1, c .is-digit .ensures) (sym (tested-more isDigit (l .i) line 0 (omega arith))))
 
-returns-2 : tie.Need-returns-2 Inv-loop μ-loop
-returns-2 c = sym (c .before .loop .inv .1 ∙ all-end isDigit 0 (c .before .before .before .args .line .now) (c .before .loop .i) (omega arith))
+returns : tie.Need-returns Inv-loop μ-loop
+returns c = let l = c .before .loop in
+    l .inv .1 ∙ ap (all isDigit) (take-all (l .i) (c .before .before .before .args .line .now) (omega arith))
 
 pub all-digits-spec : {M : Type 1} → statement M
 all-digits-spec =
@@ -48,10 +49,9 @@ all-digits-spec =
     Inv-loop
     μ-loop
     loop-holds
-    shared-slice-read-digit-value
-    digit-value-requires
-    returns
+    shared-slice-read-is-digit
+    is-digit-requires
     add-i
     loop-less
     loop-again
-    returns-2)
+    returns)

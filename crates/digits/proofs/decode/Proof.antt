@@ -9,7 +9,7 @@ use lib.ListN.{length, take, drop, length-set, length-drop, drop-of-length-le}
 use Rattle.lists.proofs.Lent.{copy-more}
 use Rattle.lists.specs.Lists.{part}
 use Rattle.model.specs.Driving.{bytesOf}
-use Rattle.digits.proofs.Bytes.{bytes-length, byte-small}
+use Rattle.digits.proofs.Bytes.{bytes-length}
 use Rattle.digits.proofs.decode.Statement.{statement}
 use Rattle.digits.proofs.decode.Tie as tie
 
@@ -22,18 +22,16 @@ abbrev μ-loop : tie.MeasureT-loop
 loop-holds : tie.Need-loop-holds Inv-loop μ-loop
 loop-holds c = (omega arith, refl, refl)
 
-add-byte-at : tie.Need-add-byte-at Inv-loop μ-loop
-add-byte-at c =
+add-byte-said : tie.Need-add-byte-said Inv-loop μ-loop
+add-byte-said c =
     let l = c .before .before .before .before .args .line .now in
     omega (arith, bytes-length l, length-drop (c .before .before .before .before .args .from) (bytesOf l))
 
-byte-at-requires : tie.Need-byte-at-requires Inv-loop μ-loop
-byte-at-requires c κs = search needs
-
-cast-out : tie.Need-cast-out Inv-loop μ-loop
-cast-out c =
-    let a = c .before .before .before .before .before in
-    omega (arith, c .byte-at .ensures, byte-small (a .args .line .now) (a .args .from + c .before .before .loop .i) (a .pre .0))
+byte-said-requires : tie.Need-byte-said-requires Inv-loop μ-loop
+byte-said-requires c κs =
+    let a = c .before .before .before .before in
+    let l = a .args .line .now in
+    (a .pre .0, omega (arith, length-drop (a .args .from) (bytesOf l), a .pre .1))
 
 slice-write-out : tie.Need-slice-write-out Inv-loop μ-loop
 slice-write-out c = search needs
@@ -51,7 +49,7 @@ loop-again c =
     let bytes = drop (a .from) (bytesOf (a .line .now)) in (
       omega arith,
       simp length-set (omega arith),
-      rw (l .inv .2, c .byte-at .ensures, ← getD-drop (a .from) (bytesOf (a .line .now)) (l .i) 0)
+      rw (l .inv .2, c .byte-said .ensures, ← getD-drop (a .from) (bytesOf (a .line .now)) (l .i) 0)
           (copy-more bytes (a .out .now) (l .i) (omega arith) (omega arith)),
     )
 
@@ -73,9 +71,8 @@ decode-spec =
     Inv-loop
     μ-loop
     loop-holds
-    add-byte-at
-    byte-at-requires
-    cast-out
+    add-byte-said
+    byte-said-requires
     slice-write-out
     add-i
     loop-less
