@@ -33,7 +33,7 @@ same-parts : (l m : List ℕ) (i n : ℕ) → same (part l i n) (part m i n) ≡
 same-parts l m i n h k g = sym (sym (getD-part l i n k g) ∙ (ap (λ (x : List ℕ). getD x k 0) (same-equal _ _ h) ∙ getD-part m i n k g))
 
 -- numbers that are the same have the same bytes
-digits : (a b c d : ℕ) → a * 256 + b ≡ c * 256 + d → b < 256 → d < 256 → (a ≡ c) × (b ≡ d)
+pub digits : (a b c d : ℕ) → a * 256 + b ≡ c * 256 + d → b < 256 → d < 256 → (a ≡ c) × (b ≡ d)
 digits a b c d e h g = (omega arith, omega arith)
 
 zero-byte : (tag : List ℕ) → zeros tag ≡ true → (k : ℕ) → getD (getD tag 3 0 ∷ getD tag 10 0 ∷ getD tag 11 0 ∷ []) k 0 ≡ 0
@@ -113,6 +113,24 @@ module _ (z : Sizes) (some : 1 ≤ z .s) (before tag : List ℕ) (fit : fieldsFi
         (λ e. starts (eqb-true _ _ e) (sym (if-true _ _ e) ∙ goes))
         (λ e. continues (sym (if-false _ _ e) ∙ goes))
         (true-or-false (eqb (ordinal tag) 0))
+
+  -- a page with the bytes of the page before it, but for the ordinal
+  module _ (before-length : length before ≡ 16) (length-tag : length tag ≡ 16) (next : ordinal tag ≡ ordinal before + 1) (more : ordinal tag < pages tag)
+      (bytes : (k : ℕ) → k < 16 → (k ≡ 1 → ⊥) → getD before k 0 ≡ getD tag k 0) where
+    same-bytes : (i n : ℕ) → 2 ≤ i → i + n ≤ 16 → same (part before i n) (part tag i n) ≡ true
+    same-bytes i n h g = parts-same before tag i n (omega arith) (omega arith) (λ k q. bytes (i + k) (omega arith) (λ e. omega arith))
+
+    pub runs-on : (fieldsFit z tag && follows before tag) ≡ true
+    unfolding sameBucket goesOn logGoes kind pages
+    runs-on = later-tested
+        (every-more _ _ (same-bytes 4 8 (omega arith) (omega arith))
+        (every-more _ _ (eq-eqb _ _ (sym (bytes 0 (omega arith) (λ e. omega arith))))
+        (every-more _ _ (eq-eqb _ _ (sym (bytes 3 (omega arith) (λ e. omega arith)) ∙ zero-byte before (r .zeros-are) 0)) every-none)))
+        (if-false _ _ (ne-eqb (ordinal tag) 0 (λ e. omega (arith, next)))
+        ∙ every-more _ _ (eq-eqb _ _ next)
+        (every-more _ _ (eq-eqb _ _ (sym (bytes 2 (omega arith) (λ e. omega arith))))
+        (every-more _ _ (lt-ltb _ _ more)
+        (every-more _ _ (same-bytes 12 4 (omega arith) (omega arith)) every-none))))
 
   -- what the definition says
   module _ (before-length : length before ≡ 16) (length-tag : length tag ≡ 16)

@@ -1,5 +1,7 @@
 pub mod Buckets
+pub mod Halves
 pub mod Later
 pub mod Page
+pub mod Runs
 pub mod SameSpare
 pub mod Slots

@@ -1,5 +1,5 @@
 -- The pages of a bucket, and the buckets of a chip, as the test goes through them.
-use Prim.Native.Nat.{ℕ, zero, suc, _+_, _≤_, _<_}
+use Prim.Native.Nat.{ℕ, zero, suc, _+_, _*_, _≤_, _<_}
 use mathlib.Core.Path.{_≡_}
 use mathlib.Core.Bool.{Bool, true, false, _&&_, _||_}
 use mathlib.Core.List.{List, [], _∷_}
@@ -27,6 +27,11 @@ sameBucket before tag = every
     (same (part before 4 8) (part tag 4 8)
     ∷ eqb (kind tag) (kind before)
     ∷ eqb (getD tag 3 0) 0 ∷ [])
+
+-- n bytes from index i on as a number, low byte first
+unfoldable pub lowFirst : List ℕ → ℕ → ℕ → ℕ
+lowFirst l i zero = 0
+lowFirst l i (suc n) = lowFirst l (i + 1) n * 256 + getD l i 0
 
 -- a page continues the log of the page before it, and that log has so many pages
 unfoldable pub goesOn : List ℕ → List ℕ → Bool

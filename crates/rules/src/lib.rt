@@ -1,12 +1,13 @@
 // Number 4: whether the image of a chip is well formed, made by the page rules.
 // The first page of a bucket is tested on its fields: a contract holds of all spare bytes that say these fields.
 // A later page is compared with the page before it, which fits: bytes that are the same say fields that fit too.
+// Most pages go on with a log, and are taken in runs: two numbers of eight bytes tell it.
 use model::Sizes;
 use spare::Fields;
 ghost use mathlib.Core.Path.{_≡_};
 ghost use mathlib.Core.Bool.{true, false, _&&_};
 ghost use mathlib.Core.List.{List, map};
-ghost use Prim.Native.Nat.{ℕ, _+_, _-_, _%_, _≤_, _<_};
+ghost use Prim.Native.Nat.{ℕ, _+_, _-_, _*_, _%_, _≤_, _<_};
 ghost use lib.ListN.{length};
 ghost use lib.Dec.{eqb};
 ghost use Rattle.lists.specs.Lists.{allBelow, times, distinct, keep, below};
@@ -16,7 +17,7 @@ ghost use Rattle.model.specs.Image.{follows, fieldsFit, bucketFits, used, epoch
 ghost use Rattle.model.proofs.Limits.{Limits};
 ghost use Rattle.spare.specs.Fields.{fields};
 ghost use Rattle.image.specs.Chip.{Chip, spareOnly};
-ghost use Rattle.rules.specs.Pages.{logFits, kindFits, sameBucket, goesOn, logGoes, fitsAt, Fitting, Stops, fitsFrom, NoKinds, Span};
+ghost use Rattle.rules.specs.Pages.{logFits, kindFits, sameBucket, lowFirst, goesOn, logGoes, fitsAt, Fitting, Stops, fitsFrom, NoKinds, Span};
 ghost use Rattle.rules.specs.Slots.{Tells};
 
 // Whether a log takes so many pages: they hold its bytes, and one page less would not. No division is made: it takes long.
@@ -163,6 +164,66 @@ fn later_fits_at(z: Sizes, c: usize, k: usize, spare: &[u8]) -> bool
     later_fits(z, &spare[before..start], &spare[start..end])
 }
 
+// Four bytes as a number, low byte first.
+fn four_low(a: u8, b: u8, c: u8, d: u8) -> u64
+    ensures { λ r. ⌜ r ≡ ((d * 256 + c) * 256 + b) * 256 + a ⌝ }
+    ensures { λ r. ⌜ r < 4294967296 ⌝ }
+{
+    (a as u64) + (b as u64) * 256 + (c as u64) * 65536 + (d as u64) * 16777216
+}
+
+// Eight bytes as a number, low byte first: one load.
+fn half_at(bytes: &[u8], i: usize) -> u64
+    requires { ⌜ i + 8 ≤ length (now bytes) ⌝ }
+    ensures { λ r. ⌜ r ≡ lowFirst (now (bytes .entry)) i 8 ⌝ }
+{
+    let low = four_low(bytes[i], bytes[i + 1], bytes[i + 2], bytes[i + 3]);
+    let high = four_low(bytes[i + 4], bytes[i + 5], bytes[i + 6], bytes[i + 7]);
+    low + high * 4294967296
+}
+
+// Whether the sixteen bytes from index i on are these two halves.
+fn are_halves(bytes: &[u8], i: usize, first: u64, second: u64) -> bool
+    requires { ⌜ i + 16 ≤ length (now bytes) ⌝ }
+    ensures { λ r. ⌜ r ≡ (eqb (lowFirst (now (bytes .entry)) i 8) first && eqb (lowFirst (now (bytes .entry)) (i + 8) 8) second) ⌝ }
+{
+    let here = half_at(bytes, i);
+    let behind = half_at(bytes, i + 8);
+    (here == first) & (behind == second)
+}
+
+// The end of the log of a page, or of its bucket: k is the page behind it, and that log has so many pages.
+fn log_end(z: Sizes, k: usize, ordinal: u8, pages: u8) -> usize
+    requires { ⌜ Limits z ⌝ }
+    requires { ⌜ (k ≤ z .p) × (ordinal < pages) ⌝ }
+    ensures { λ r. ⌜ (k ≤ r) × (r ≤ z .p) × (ordinal + (r - k) < pages) ⌝ }
+{
+    let end = k + (pages - ordinal) as usize - 1;
+    if end < z.p { end } else { z.p }
+}
+
+// Where the pages end that go on with the log of the page before k: their bytes are its own, but for the ordinal.
+fn run_end(z: Sizes, c: usize, k: usize, spare: &[u8]) -> usize
+    requires { ⌜ Chip z (now spare) ⌝ }
+    requires { ⌜ c < z .c ⌝ }
+    requires { ⌜ (1 ≤ k) × Fitting z (spareOnly (now spare)) c k ⌝ }
+    ensures { λ r. ⌜ (k ≤ r) × Fitting z (spareOnly (now (spare .entry))) c r ⌝ }
+{
+    let start = (c * z.p + k) * 16;
+    let end = log_end(z, k, spare[start - 15], spare[start - 14]);
+    let second = half_at(spare, start - 8);
+    let mut first = half_at(spare, start - 16);
+    let mut e = k;
+    while e < end {
+        first += 256;
+        if !are_halves(spare, (c * z.p + e) * 16, first, second) {
+            return e;
+        }
+        e += 1;
+    }
+    e
+}
+
 // How many pages fit, from the first on, which does.
 fn fitting_from(z: Sizes, c: usize, spare: &[u8]) -> usize
     requires { ⌜ Chip z (now spare) ⌝ }
@@ -170,12 +231,12 @@ fn fitting_from(z: Sizes, c: usize, spare: &[u8]) -> usize
     requires { ⌜ Fitting z (spareOnly (now spare)) c 1 ⌝ }
     ensures { λ r. ⌜ Stops z (spareOnly (now (spare .entry))) c r ⌝ }
 {
-    let mut k = 1;
+    let mut k = run_end(z, c, 1, spare);
     while k < z.p {
         if !later_fits_at(z, c, k, spare) {
             return k;
         }
-        k += 1;
+        k = run_end(z, c, k + 1, spare);
     }
     k
 }
