@@ -69,13 +69,6 @@ unfolding allBelow
 below-all zero t h = refl
 below-all (suc n) t h = and-true (below-all n t (λ k hk. h k (omega arith))) (h n (omega arith))
 
-pub below-fails : (n : ℕ) (t : ℕ → Bool) (k : ℕ) → k < n → t k ≡ false → allBelow n t ≡ false
-below-fails n t k h e = go (allBelow n t) refl
-  where
-    go : (s : Bool) → allBelow n t ≡ s → allBelow n t ≡ false
-    go true q = absurd (true≢false (sym (all-below n t q k h) ∙ e))
-    go false q = q
-
 -- tests that agree below a bound
 pub below-alike : (n : ℕ) (s t : ℕ → Bool) → ((k : ℕ) → k < n → s k ≡ t k) → allBelow n s ≡ allBelow n t
 unfolding allBelow

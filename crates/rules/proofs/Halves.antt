@@ -1,16 +1,16 @@
 -- The spare bytes of a page as two numbers: numbers that are the same have the same bytes.
-use mathlib.Core.Path.{_≡_, sym, ap, _∙_}
+use mathlib.Core.Path.{_≡_, sym, _∙_}
 use mathlib.Core.Logic.{⊎-elim}
 use mathlib.Core.List.{List}
-use Prim.Native.Nat.{ℕ, zero, suc, _+_, _*_, _-_, _≤_, _<_}
+use Prim.Native.Nat.{ℕ, zero, suc, _+_, _-_, _≤_, _<_}
 use native.Mathlib.Omega.{arith}
-use lib.ListN.{length, getD}
+use lib.ListN.{getD}
 use lib.Dec.{ltb}
 use borrow.Author.Tests.{ltb-true, ltb-false}
 use Rattle.lists.specs.Lists.{part}
 use Rattle.lists.proofs.Tests.{true-or-false}
 use Rattle.lists.proofs.Parts.{getD-part}
-use Rattle.model.specs.Spare.{ordinal, pages}
+use Rattle.model.specs.Spare.{ordinal}
 use Rattle.rules.specs.Pages.{lowFirst}
 use Rattle.rules.proofs.Later.{digits}
 

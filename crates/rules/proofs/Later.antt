@@ -114,23 +114,32 @@ module _ (z : Sizes) (some : 1 ≤ z .s) (before tag : List ℕ) (fit : fieldsFi
         (λ e. continues (sym (if-false _ _ e) ∙ goes))
         (true-or-false (eqb (ordinal tag) 0))
 
-  -- a page with the bytes of the page before it, but for the ordinal
-  module _ (before-length : length before ≡ 16) (length-tag : length tag ≡ 16) (next : ordinal tag ≡ ordinal before + 1) (more : ordinal tag < pages tag)
-      (bytes : (k : ℕ) → k < 16 → (k ≡ 1 → ⊥) → getD before k 0 ≡ getD tag k 0) where
-    same-bytes : (i n : ℕ) → 2 ≤ i → i + n ≤ 16 → same (part before i n) (part tag i n) ≡ true
-    same-bytes i n h g = parts-same before tag i n (omega arith) (omega arith) (λ k q. bytes (i + k) (omega arith) (λ e. omega arith))
+  -- the tests, from the bytes that they compare
+  module _ (before-length : length before ≡ 16) (length-tag : length tag ≡ 16) where
+    in-bucket : ((k : ℕ) → k < 8 → getD before (4 + k) 0 ≡ getD tag (4 + k) 0) → kind tag ≡ kind before → getD tag 3 0 ≡ 0 → sameBucket before tag ≡ true
+    unfolding sameBucket
+    in-bucket p k n =
+        every-more _ _ (parts-same before tag 4 8 (omega arith) (omega arith) p)
+        (every-more _ _ (eq-eqb _ _ k)
+        (every-more _ _ (eq-eqb _ _ n) every-none))
 
-    pub runs-on : (fieldsFit z tag && follows before tag) ≡ true
-    unfolding sameBucket goesOn logGoes kind pages
-    runs-on = later-tested
-        (every-more _ _ (same-bytes 4 8 (omega arith) (omega arith))
-        (every-more _ _ (eq-eqb _ _ (sym (bytes 0 (omega arith) (λ e. omega arith))))
-        (every-more _ _ (eq-eqb _ _ (sym (bytes 3 (omega arith) (λ e. omega arith)) ∙ zero-byte before (r .zeros-are) 0)) every-none)))
-        (if-false _ _ (ne-eqb (ordinal tag) 0 (λ e. omega (arith, next)))
-        ∙ every-more _ _ (eq-eqb _ _ next)
-        (every-more _ _ (eq-eqb _ _ (sym (bytes 2 (omega arith) (λ e. omega arith))))
-        (every-more _ _ (lt-ltb _ _ more)
-        (every-more _ _ (same-bytes 12 4 (omega arith) (omega arith)) every-none))))
+    going : ordinal tag ≡ ordinal before + 1 → pages tag ≡ pages before → ordinal tag < pages tag
+        → ((k : ℕ) → k < 4 → getD before (12 + k) 0 ≡ getD tag (12 + k) 0) → logGoes z before tag ≡ true
+    unfolding logGoes goesOn
+    going o n m l = if-false _ _ (ne-eqb (ordinal tag) 0 (λ e. omega (arith, o)))
+        ∙ every-more _ _ (eq-eqb _ _ o)
+        (every-more _ _ (eq-eqb _ _ n)
+        (every-more _ _ (lt-ltb _ _ m)
+        (every-more _ _ (parts-same before tag 12 4 (omega arith) (omega arith) l) every-none)))
+
+    -- a page with the bytes of the page before it, but for the ordinal
+    pub runs-on : ordinal tag ≡ ordinal before + 1 → ordinal tag < pages tag → ((k : ℕ) → k < 16 → (k ≡ 1 → ⊥) → getD before k 0 ≡ getD tag k 0)
+        → (fieldsFit z tag && follows before tag) ≡ true
+    unfolding kind pages
+    runs-on next more bytes = later-tested
+        (in-bucket (λ k h. bytes (4 + k) (omega arith) (λ e. omega arith)) (sym (bytes 0 (omega arith) (λ e. omega arith)))
+        (sym (bytes 3 (omega arith) (λ e. omega arith)) ∙ zero-byte before (r .zeros-are) 0))
+        (going next (sym (bytes 2 (omega arith) (λ e. omega arith))) more (λ k h. bytes (12 + k) (omega arith) (λ e. omega arith)))
 
   -- what the definition says
   module _ (before-length : length before ≡ 16) (length-tag : length tag ≡ 16)
@@ -170,21 +179,10 @@ module _ (z : Sizes) (some : 1 ≤ z .s) (before tag : List ℕ) (fit : fieldsFi
     log-told i l (suc (suc (suc zero))) h = pair 14 (omega arith) (omega (arith, l)) .1
     log-told i l (suc (suc (suc (suc k)))) h = absurd (omega arith)
 
-    bucket-told : sameBucket before tag ≡ true
-    unfolding sameBucket
-    bucket-told =
-        every-more _ _ (parts-same before tag 4 8 (omega arith) (omega arith) place-told)
-        (every-more _ _ (eq-eqb _ _ (w .kind-same))
-        (every-more _ _ (eq-eqb _ _ (zero-byte tag (f .zeros-are) 0)) every-none))
-
     goes-told : Goes before tag → logGoes z before tag ≡ true
-    unfolding logGoes goesOn
+    unfolding logGoes
     goes-told (begins o k) = if-true _ _ (eq-eqb _ _ o) ∙ and-true (log-tested z tag f) (eq-eqb _ _ k)
-    goes-told (goes-on o n i l) = if-false _ _ (ne-eqb (ordinal tag) 0 (λ e. omega (arith, o)))
-        ∙ every-more _ _ (eq-eqb _ _ o)
-        (every-more _ _ (eq-eqb _ _ n)
-        (every-more _ _ (lt-ltb _ _ (f .ordinal-below))
-        (every-more _ _ (parts-same before tag 12 4 (omega arith) (omega arith) (log-told i l)) every-none)))
+    goes-told (goes-on o n i l) = going before-length length-tag o n (f .ordinal-below) (log-told i l)
 
   pub later-test : length before ≡ 16 → length tag ≡ 16 → ((i : ℕ) → i < 16 → (getD before i 0 < 256) × (getD tag i 0 < 256))
       → (sameBucket before tag && logGoes z before tag) ≡ (fieldsFit z tag && follows before tag)
@@ -192,4 +190,4 @@ module _ (z : Sizes) (some : 1 ≤ z .s) (before tag : List ℕ) (fit : fieldsFi
       (λ h. later-tested (and-left _ _ h) (and-right (sameBucket before tag) _ h))
       (λ h. let f = fields-of z tag (and-left _ _ h) in
       let w = follows-of before tag (and-right (fieldsFit z tag) _ h) in
-      and-true (bucket-told lb lt bytes f w) (goes-told lb lt bytes f w (w .goes)))
+      and-true (in-bucket lb lt (place-told lb lt bytes f w) (w .kind-same) (zero-byte tag (f .zeros-are) 0)) (goes-told lb lt bytes f w (w .goes)))

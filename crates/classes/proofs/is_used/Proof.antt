@@ -4,7 +4,6 @@ use Rattle.image.proofs.First.{formed-bucket}
 use mathlib.Core.Path.{ap}
 use mathlib.Core.Bool.{not}
 use Rattle.model.specs.Recover.{isFree}
-use borrow.Author.Needs.{needs}
 use Rattle.classes.proofs.is_used.Statement.{statement}
 use Rattle.classes.proofs.is_used.Tie as tie
 

@@ -1,8 +1,6 @@
 -- `digits::byte_said` meets its contract.
-use mathlib.Core.Path.{sym, _∙_}
 use native.Mathlib.Omega.{arith}
 use Prim.Native.Nat.{_+_, _*_}
-use lib.ListN.{getD}
 use Rattle.lists.proofs.Arrays.{all-at}
 use Rattle.digits.proofs.Bytes.{bytes-length, byte-at}
 use Rattle.digits.specs.Digits.{isDigit}

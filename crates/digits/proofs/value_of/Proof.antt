@@ -1,6 +1,5 @@
 -- `digits::value_of` meets its contract.
 use native.Mathlib.Omega.{arith}
-use borrow.Author.Needs.{needs}
 use Rattle.digits.proofs.Values.{digit-below, value-test}
 use Rattle.digits.proofs.value_of.Statement.{statement}
 use Rattle.digits.proofs.value_of.Tie as tie

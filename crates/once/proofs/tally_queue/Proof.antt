@@ -1,6 +1,6 @@
 use Prim.Native.Nat.{_+_, _≤_, _<_, _-_}
 use mathlib.Core.List.{[], _∷_, _++_, map}
-use mathlib.Core.Path.{_≡_, sym, ap, _∙_}
+use mathlib.Core.Path.{_≡_, ap, _∙_}
 use native.Mathlib.Omega.{arith}
 use lib.ListN.{length, take, getD, length-map, length-take}
 use borrow.Author.Needs.{needs}

@@ -1,7 +1,7 @@
 use native.Mathlib.Omega.{arith}
 use Prim.Native.Nat.{ℕ, _+_, _*_, _-_, _≤_, _<_}
 use lib.ListN.{length}
-use mathlib.Core.Path.{_≡_, sym, _∙_}
+use mathlib.Core.Path.{_≡_, sym}
 use borrow.Author.Tests.{not-false}
 use Rattle.image.proofs.Place.{page-inside}
 use Rattle.rules.proofs.Runs.{Run, start-inside, ordinal-below, next-fits, run-grows}
