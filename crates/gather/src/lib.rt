@@ -45,7 +45,7 @@ fn base_range(s: State, b: u16, from: usize, flash: &[u8], disk: &[u8], window: 
     }
 }
 
-// The window shows the bytes of the back-end bucket b from an index on.
+// The window shows the bytes of the back-end bucket b from an index on. The state is looked at before the window is written: looked at later, it would be copied whole.
 pub fn merged_range(
     s: State,
     b: u16,
@@ -59,11 +59,12 @@ pub fn merged_range(
     requires { ⌜ from + length (now window) ≤ bucketSize (s .sizes) ⌝ }
     ensures { λ _. ⌜ now (window .exit) ≡ part (merged (s .sizes) (viewOf s) (device (now (flash .entry)) (now (spare .entry)) (now (disk .entry))) b) from (length (now (window .entry))) ⌝ }
 {
-    base_range(s, b, from, flash, disk, window);
+    let z = s.sizes;
     let logs = s.writes.find(b);
+    base_range(s, b, from, flash, disk, window);
     if logs.held {
         let c = logs.cache as usize;
-        merge::merge_range(s.sizes, c, from, flash, spare, window);
+        merge::merge_range(z, c, from, flash, spare, window);
     }
 }
 

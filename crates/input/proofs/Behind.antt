@@ -4,7 +4,7 @@ use mathlib.Core.List.{List, [], _∷_, _++_, append-assoc, append-nil}
 use Prim.Native.Nat.{ℕ, suc, _+_, _-_, _≤_}
 use native.Mathlib.Omega.{arith}
 use native.Mathlib.Nat.{zero-add}
-use lib.ListN.{length, take, drop, length-append}
+use lib.ListN.{length, take, drop, length-append, length-drop}
 use lib.Seq.{take-at, take-append-le, length-take-le}
 use Rattle.lists.specs.Lists.{splice}
 
@@ -28,6 +28,12 @@ pub behind-inside : (out back rest : List ℕ) (at n : ℕ) → at ≤ length ou
 behind-inside out back rest at n h k =
     let e : length (take at out) ≡ at = length-take-le at out h in
     omega (arith, length-append (take at out) (back ++ rest), length-append back rest)
+
+-- nothing stands behind a part that reaches the end
+pub behind-length : (out back : List ℕ) (at : ℕ) → at ≤ length out → length (take at out ++ (back ++ drop (length out - at) (drop at out))) ≡ at + length back
+behind-length out back at h =
+    let rest = drop (length out - at) (drop at out) in
+    omega (arith, length-append (take at out) (back ++ rest), length-append back rest, length-take-le at out h, length-drop at out, length-drop (length out - at) (drop at out))
 
 -- the bytes that are too many are left out
 pub held-cut : (line : List ℕ) (held : ℕ) (bytes : List ℕ) → length line ≡ 513 → held ≤ 513 → 513 - held ≤ length bytes

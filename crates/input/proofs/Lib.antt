@@ -1,3 +1,4 @@
 pub mod Cut
 pub mod Behind
 pub mod Onward
+pub mod Along

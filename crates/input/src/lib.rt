@@ -9,10 +9,9 @@ ghost use mathlib.Core.List.{List, [], _++_};
 ghost use Prim.Native.Nat.{ℕ, _+_, _<_, _≤_};
 ghost use lib.ListN.{length, take, drop, replicate};
 ghost use Rattle.model.specs.Driving.{output};
-ghost use Rattle.calls.specs.Arrays.{Arrays};
 ghost use Rattle.drive.specs.Recorder.{Ready};
 ghost use Rattle.input.specs.declared.Walk.{Walk};
-ghost use Rattle.input.specs.Ahead.{shownOf, lineShown, ahead, Sound};
+ghost use Rattle.input.specs.Ahead.{ahead, Sound};
 
 // How far the program has come.
 pub struct Walk {
@@ -39,41 +38,7 @@ fn gather(line: &mut [u8], held: usize, bytes: &[u8]) -> usize
     513
 }
 
-// A whole line. Its text stands behind what is printed already.
-fn walk_line(
-    w: Walk,
-    line: &[u8],
-    buffer: &mut [u8],
-    flash: &mut [u8],
-    spare: &mut [u8],
-    disk: &mut [u8],
-    out: &mut [u8],
-) -> Walk
-    requires { ⌜ Arrays (now flash) (now spare) (now disk) × Ready (w .recorder .formatted) (w .recorder .sizes) ⌝ }
-    requires { ⌜ (65535 ≤ length (now buffer)) × (w .printed + 32775 ≤ length (now out)) ⌝ }
-    ensures { λ r. ⌜ shownOf r (now (flash .exit)) (now (spare .exit)) (now (disk .exit)) (now (out .exit)) ≡ lineShown (shownOf w (now (flash .entry)) (now (spare .entry)) (now (disk .entry)) (now (out .entry))) (now (line .entry)) ⌝ }
-    ensures { λ r. ⌜ (r .held ≡ 0) × (r .passed ≡ w .passed) × Ready (r .recorder .formatted) (r .recorder .sizes) × (r .printed ≤ length (now (out .exit))) ⌝ }
-{
-    let printed = w.printed;
-    let walked = drive::on_line(
-        w.recorder,
-        line,
-        buffer,
-        flash,
-        spare,
-        disk,
-        &mut out[printed..],
-    );
-    let recorder = walked.recorder;
-    Walk {
-        recorder,
-        held: 0,
-        passed: w.passed,
-        printed: printed + walked.length,
-    }
-}
-
-// Up to the end of a line, which is then walked, or of the piece.
+// Line by line, each walked once it is whole, up to the end of the piece or of the room for its text.
 pub fn advance(
     w: Walk,
     piece: &[u8],
@@ -89,19 +54,36 @@ pub fn advance(
     ensures { λ r. ⌜ ((rest : List ℕ) → ahead r (now (line .exit)) (now (flash .exit)) (now (spare .exit)) (now (disk .exit)) (now (out .exit)) (drop (r .passed) (now (piece .entry)) ++ rest) ≡ ahead w (now (line .entry)) (now (flash .entry)) (now (spare .entry)) (now (disk .entry)) (now (out .entry)) (drop (w .passed) (now (piece .entry)) ++ rest)) ⌝ }
     ensures { λ r. ⌜ Sound r (now (line .exit)) (now (buffer .exit)) (now (flash .exit)) (now (spare .exit)) (now (disk .exit)) (now (out .exit)) × (w .passed < r .passed) × (r .passed ≤ length (now (piece .entry))) ⌝ }
 {
-    let from = w.passed;
-    let end = lines::line_end(piece, from);
-    let held = gather(line, w.held, &piece[from..end]);
-    if end == piece.len() {
-        let mut on = w;
-        on.held = held;
-        on.passed = end;
-        return on;
+    let mut walk = w;
+    while walk.passed < piece.len() && 32775 <= out.len() - walk.printed {
+        let from = walk.passed;
+        let end = lines::line_end(piece, from);
+        let held = gather(line, walk.held, &piece[from..end]);
+        walk.held = held;
+        walk.passed = end;
+        if end < piece.len() {
+            let at = walk.printed;
+            let made = drive::on_line(
+                walk.recorder,
+                &line[..held],
+                buffer,
+                flash,
+                spare,
+                disk,
+                &mut out[at..],
+            );
+            let recorder = made.recorder;
+            let passed = end + 1;
+            let printed = at + made.length;
+            walk = Walk {
+                recorder,
+                held: 0,
+                passed,
+                printed,
+            };
+        }
     }
-    let next = end + 1;
-    let mut walked = walk_line(w, &line[..held], buffer, flash, spare, disk, out);
-    walked.passed = next;
-    walked
+    walk
 }
 
 // What stands for the rest of the input at its end: the line feed that a held line lacks, so that every line is walked at one place.

@@ -1,126 +1,163 @@
 -- `input::advance` meets its contract.
-use lib.ListN.{take, length-take}
+use lib.ListN.{length, take, drop, length-take, length-drop}
 use native.Mathlib.Omega.{arith}
-use Prim.Native.Nat.{ℕ}
-use mathlib.Core.List.{List, _++_}
-use mathlib.Core.Path.{ap}
+use Prim.Native.Nat.{_-_}
+use borrow.Author.Tests.{leb-true, leb-false}
 use borrow.Author.Needs.{needs}
 use Rattle.lists.specs.Lists.{part}
-use Rattle.input.proofs.Onward.{line-held, line-walked}
-use Rattle.input.specs.Ahead.{shownOf, ahead}
+use Rattle.input.proofs.Along.{Along, set-out, passed-some, held-on, walked-on}
+use Rattle.input.proofs.Behind.{behind-inside, behind-length}
 use Rattle.input.proofs.advance.Statement.{statement}
 use Rattle.input.proofs.advance.Tie as tie
 
-line-end-requires : tie.Need-line-end-requires
-line-end-requires c κs = search needs
+abbrev Inv-loop : tie.InvT-loop
+Inv-loop piece line₀ buffer₀ flash₀ spare₀ disk₀ out₀ walk₀ line buffer flash spare disk out walk =
+    Along piece walk₀ line₀ buffer₀ flash₀ spare₀ disk₀ out₀ walk line buffer flash spare disk out
 
-sub-gather : tie.Need-sub-gather
+abbrev μ-loop : tie.MeasureT-loop
+μ-loop piece line₀ buffer₀ flash₀ spare₀ disk₀ out₀ walk₀ line buffer flash spare disk out walk = length piece - walk .passed
+
+loop-holds : tie.Need-loop-holds Inv-loop μ-loop
+loop-holds c = set-out _ _ _ _ _ _ _ _ (c .before .before .before .before .before .before .before .pre .0) (c .before .before .before .before .before .before .before .pre .1 .0)
+
+sub-if2 : tie.Need-sub-if2 Inv-loop μ-loop
+sub-if2 c = c .before .before .before .loop .inv .sound .printed-room
+
+line-end-requires : tie.Need-line-end-requires Inv-loop μ-loop
+line-end-requires c κs = c .before .before .before .before .loop .inv .inside
+
+sub-gather : tie.Need-sub-gather Inv-loop μ-loop
 sub-gather c = search needs
 
-part-gather-start : tie.Need-part-gather-start
+part-gather-start : tie.Need-part-gather-start Inv-loop μ-loop
 part-gather-start c = search needs
 
-part-gather-end : tie.Need-part-gather-end
+part-gather-end : tie.Need-part-gather-end Inv-loop μ-loop
 part-gather-end c = search needs
 
-gather-requires : tie.Need-gather-requires
-gather-requires c κs = search needs
+gather-requires : tie.Need-gather-requires Inv-loop μ-loop
+gather-requires c κs = (c .before .before .before .before .before .before .before .loop .inv .sound .line-room, c .before .before .before .before .before .before .before .loop .inv .sound .held-room)
 
-same-length : tie.Need-same-length
-same-length c = search needs
+slice-reshare-prefix-on-line : tie.Need-slice-reshare-prefix-on-line Inv-loop μ-loop
+slice-reshare-prefix-on-line c = search needs
 
-returns : tie.Need-returns
-unfolding part ahead
-returns c = let start = c .before .before .before .before .before .before .before .before .before .before .before .before .before .before in
-    let a = start .args in
-    let s = start .pre .0 in
-    let found = c .before .before .before .before .before .before .line-end .ensures in (
-      λ rest. ap (λ (t : List ℕ). take (a .w .printed) (a .out .now) ++ t) (line-held (a .piece .now) (a .w .passed) (c .before .before .before .before .before .before .line-end .result) (found .1) (take (a .w .held) (a .line .now)) _ (c .before .before .before .gather .ensures .1) rest _),
-      (
-        record {
-          ready = s .ready;
-          arrays = s .arrays;
-          line-room = omega (arith, c .before .before .line .given, s .line-room);
-          held-room = c .before .before .before .gather .ensures .0;
-          buffer-room = s .buffer-room;
-          printed-room = s .printed-room;
-        },
-        omega (arith, c .if1 .taken, start .pre .1 .0),
-        found .0 .1,
-      ),
-    )
+slice-aggregate-on-line : tie.Need-slice-aggregate-on-line Inv-loop μ-loop
+slice-aggregate-on-line c = simp length-take (omega (arith, c .before .before .before .before .gather .ensures .0, c .before .before .before .line .given, c .before .before .before .before .before .before .before .before .before .before .before .before .loop .inv .sound .line-room))
 
-add-next : tie.Need-add-next
-add-next c = let found = c .before .before .before .before .before .before .line-end .ensures in omega (arith, found .0 .1, c .if1 .left)
+sub-on-line : tie.Need-sub-on-line Inv-loop μ-loop
+sub-on-line c = search needs
 
-slice-reshare-prefix-walk-line : tie.Need-slice-reshare-prefix-walk-line
-slice-reshare-prefix-walk-line c = search needs
+part-on-line-start : tie.Need-part-on-line-start Inv-loop μ-loop
+part-on-line-start c = search needs
 
-slice-aggregate-walk-line : tie.Need-slice-aggregate-walk-line
-slice-aggregate-walk-line c = simp length-take (omega (arith, c .before .before .before .before .gather .ensures .0, c .before .before .before .line .given, c .before .before .before .before .before .before .before .before .before .before .before .before .before .before .before .pre .0 .line-room))
+part-on-line-end : tie.Need-part-on-line-end Inv-loop μ-loop
+part-on-line-end c = search needs
 
-walk-line-requires : tie.Need-walk-line-requires
-walk-line-requires c κs = search needs
+on-line-requires : tie.Need-on-line-requires Inv-loop μ-loop
+on-line-requires c κs = let s = c .before .before .before .before .before .before .before .before .before .before .before .before .before .before .before .before .before .loop .inv .sound in let w = c .before .before .before .before .before .before .before .before .before .before .before .before .before .before .before .before .before .loop .walk in let out = c .before .before .before .before .before .before .before .before .before .before .before .before .before .before .before .before .before .loop .out in (s .arrays, record { buffer-room = s .buffer-room; out-room = rw (length-take (length out - w .printed) (drop (w .printed) out), length-drop (w .printed) out) (omega (arith, leb-true 32775 (length out - w .printed) (c .before .before .before .before .before .before .before .before .before .before .before .before .before .if2 .taken))) }, s .ready)
 
-same-length-2 : tie.Need-same-length-2
-same-length-2 c = search needs
+add-passed : tie.Need-add-passed Inv-loop μ-loop
+add-passed c = omega (arith, c .before .before .before .before .before .before .before .before .before .before .before .before .before .before .before .before .before .before .if3 .taken, c .before .before .before .before .before .before .before .before .before .before .before .before .before .before .before .before .before .before .before .before .before .before .before .before .before .before .before .before .before .before .before .before .before .before .before .before .before .good)
 
-same-length-3 : tie.Need-same-length-3
-same-length-3 c = search needs
+add-printed : tie.Need-add-printed Inv-loop μ-loop
+add-printed c = let w = c .before .before .before .before .before .before .before .before .before .before .before .before .before .before .before .before .before .before .before .before .before .before .before .before .before .before .before .before .before .before .loop .walk in let out = c .before .before .before .before .before .before .before .before .before .before .before .before .before .before .before .before .before .before .before .before .before .before .before .before .before .before .before .before .before .before .loop .out in
+    let back = c .before .before .before .before .before .before .before .before .before .before .before .before .on-line .last .1 .1 .1 .1 .1 .1 .0 in
+    omega (arith, behind-inside out back (drop (length out - w .printed) (drop (w .printed) out)) (w .printed) (c .before .before .before .before .before .before .before .before .before .before .before .before .on-line .result .length) (c .before .before .before .before .before .before .before .before .before .before .before .before .before .before .before .before .before .before .before .before .before .before .before .before .before .before .before .before .before .before .loop .inv .sound .printed-room) (c .before .before .before .before .before .before .before .before .before .before .before .before .on-line .ensures .1 .1), c .before .before .before .out .given, c .before .before .before .before .before .before .before .before .before .before .before .before .before .before .before .before .before .before .before .before .before .before .before .before .before .before .before .before .before .before .loop .inv .out-same, c .before .before .before .before .before .before .before .before .before .before .before .before .before .before .before .before .before .before .before .before .before .before .before .before .before .before .before .before .before .before .before .before .before .before .before .before .before .before .good)
 
-same-length-4 : tie.Need-same-length-4
-same-length-4 c = search needs
+loop-less : tie.Need-loop-less Inv-loop μ-loop
+loop-less c = omega (arith, c .before .before .before .before .before .before .before .before .before .before .before .before .before .before .before .before .before .before .before .before .before .before .before .before .before .line-end .ensures .0 .0, c .before .before .before .before .before .before .before .before .before .before .before .before .before .before .before .before .before .before .before .before .before .before .before .before .before .before .before .before .if1 .taken)
 
-same-length-5 : tie.Need-same-length-5
-same-length-5 c = search needs
+loop-again : tie.Need-loop-again Inv-loop μ-loop
+unfolding part
+loop-again c = let l = c .before .before .before .before .before .before .before .before .before .before .before .before .before .before .before .before .before .before .before .before .before .before .before .before .before .before .before .before .before .before .loop in let g = c .before .before .before .before .before .before .before .before .before .before .before .before .before .before .before .before .before .before .before .before .before .before .gather in let o = c .before .before .before .before .before .before .before .before .before .before .before .before .on-line in
+    walked-on _ _ _ _ _ _ _ _ (l .walk) (l .line) (l .buffer) (l .flash) (l .spare) (l .disk) (l .out) (l .inv) (c .before .before .before .before .before .before .before .before .before .before .before .before .before .before .before .before .before .before .before .before .before .before .before .before .before .before .before .before .if1 .taken) (c .before .before .before .before .before .before .before .before .before .before .before .before .before .before .before .before .before .before .before .before .before .before .before .before .before .line-end .result) (c .before .before .before .before .before .before .before .before .before .before .before .before .before .before .before .before .before .before .before .before .before .before .before .before .before .line-end .ensures .0) (c .before .before .before .before .before .before .before .before .before .before .before .before .before .before .before .before .before .before .before .before .before .before .before .before .before .line-end .ensures .1) (g .result) (g .last .0) (g .ensures .0) (g .ensures .1) (c .before .before .before .before .before .before .before .before .before .before .before .before .before .before .before .before .before .before .before .before .before .line .given) (o .result) _ _ _ _ (o .last .1 .1 .1 .1 .1 .1 .0) (drop (length (l .out) - l .walk .printed) (drop (l .walk .printed) (l .out))) (o .ensures .0) (o .ensures .1 .0) (o .ensures .1 .1) (c .before .before .before .before .before .before .before .before .before .before .before .buffer .given) (c .before .before .before .before .before .before .before .before .before .flash .given) (c .before .before .before .before .before .before .before .spare .given) (c .before .before .before .before .before .disk .given) (omega (arith, behind-length (l .out) (o .last .1 .1 .1 .1 .1 .1 .0) (l .walk .printed) (l .inv .sound .printed-room), c .before .before .before .out .given)) (c .before .before .before .before .before .before .before .before .before .before .before .before .before .before .before .before .before .before .before .if3 .taken)
 
-same-length-6 : tie.Need-same-length-6
-same-length-6 c = search needs
+loop-less-2 : tie.Need-loop-less-2 Inv-loop μ-loop
+loop-less-2 c = omega (arith, c .if3 .left, c .before .before .before .before .before .before .before .before .before .if1 .taken, c .before .before .before .before .before .before .line-end .ensures .0 .1)
 
-same-length-7 : tie.Need-same-length-7
-same-length-7 c = search needs
+loop-again-2 : tie.Need-loop-again-2 Inv-loop μ-loop
+unfolding part
+loop-again-2 c = let l = c .before .before .before .before .before .before .before .before .before .before .before .loop in let g = c .before .before .before .gather in
+    held-on _ _ _ _ _ _ _ _ (l .walk) (l .line) (l .buffer) (l .flash) (l .spare) (l .disk) (l .out) (l .inv) (c .before .before .before .before .before .before .before .before .before .if1 .taken) (c .before .before .before .before .before .before .line-end .result) (c .before .before .before .before .before .before .line-end .ensures .0) (c .before .before .before .before .before .before .line-end .ensures .1) (g .result) (g .last .0) (g .ensures .0) (g .ensures .1) (c .before .before .line .given) (omega (arith, c .if3 .left))
 
-returns-2 : tie.Need-returns-2
-unfolding part ahead
-returns-2 c = let start = c .before .before .before .before .before .before .before .before .before .before .before .before .before .before .before .before .before .before .before .before .before .before .before .before .before .before .before .before .before .before .before in
-    let a = start .args in
-    let s = start .pre .0 in
-    let found = c .before .before .before .before .before .before .before .before .before .before .before .before .before .before .before .before .before .before .before .before .before .before .before .line-end .ensures in
-    let walked = c .before .before .before .before .before .before .before .before .before .before .walk-line .ensures in (
-      λ rest. rw (walked .1 .0) (line-walked (a .piece .now) (a .w .passed) (c .before .before .before .before .before .before .before .before .before .before .before .before .before .before .before .before .before .before .before .before .before .before .before .line-end .result) (found .1) (take (a .w .held) (a .line .now)) _ (c .before .before .before .before .before .before .before .before .before .before .before .before .before .before .before .before .before .before .before .before .gather .ensures .1) rest (shownOf (a .w) (a .flash .now) (a .spare .now) (a .disk .now) (a .out .now)) _ (walked .0) (omega (arith, found .0 .1, c .before .before .before .before .before .before .before .before .before .before .before .before .before .before .before .before .before .if1 .left)) (found .0 .2 (omega (arith, found .0 .1, c .before .before .before .before .before .before .before .before .before .before .before .before .before .before .before .before .before .if1 .left)))),
-      (
-        record {
-          ready = walked .1 .2;
-          arrays = record { flash-length = omega (arith, c .before .before .before .before .before .before .before .flash .given, s .arrays .flash-length); spare-length = omega (arith, c .before .before .before .before .before .spare .given, s .arrays .spare-length); disk-length = omega (arith, c .before .before .before .disk .given, s .arrays .disk-length) };
-          line-room = omega (arith, c .before .before .before .before .before .before .before .before .before .before .before .before .before .before .before .before .before .before .before .line .given, s .line-room);
-          held-room = omega (arith, walked .1 .0);
-          buffer-room = omega (arith, c .before .before .before .before .before .before .before .before .before .buffer .given, s .buffer-room);
-          printed-room = walked .1 .3;
-        },
-        omega (arith, found .0 .0),
-        omega (arith, found .0 .1, c .before .before .before .before .before .before .before .before .before .before .before .before .before .before .before .before .before .if1 .left),
-      ),
-    )
+same-length : tie.Need-same-length Inv-loop μ-loop
+same-length c = c .before .before .before .before .loop .inv .line-same
+
+same-length-2 : tie.Need-same-length-2 Inv-loop μ-loop
+same-length-2 c = c .before .before .before .before .loop .inv .buffer-same
+
+same-length-3 : tie.Need-same-length-3 Inv-loop μ-loop
+same-length-3 c = c .before .before .before .before .loop .inv .flash-same
+
+same-length-4 : tie.Need-same-length-4 Inv-loop μ-loop
+same-length-4 c = c .before .before .before .before .loop .inv .spare-same
+
+same-length-5 : tie.Need-same-length-5 Inv-loop μ-loop
+same-length-5 c = c .before .before .before .before .loop .inv .disk-same
+
+same-length-6 : tie.Need-same-length-6 Inv-loop μ-loop
+same-length-6 c = c .before .before .before .before .loop .inv .out-same
+
+returns : tie.Need-returns Inv-loop μ-loop
+returns c = let v = c .before .before .before .before .loop .inv in (v .alike, (v .sound, passed-some _ _ _ _ _ _ _ _ (c .before .before .before .before .loop .walk) _ _ _ _ _ _ v (c .before .before .before .before .before .before .before .before .before .before .before .before .pre .1 .1) (leb-false _ _ (c .if2 .left)), v .inside))
+
+same-length-7 : tie.Need-same-length-7 Inv-loop μ-loop
+same-length-7 c = c .before .before .loop .inv .line-same
+
+same-length-8 : tie.Need-same-length-8 Inv-loop μ-loop
+same-length-8 c = c .before .before .loop .inv .buffer-same
+
+same-length-9 : tie.Need-same-length-9 Inv-loop μ-loop
+same-length-9 c = c .before .before .loop .inv .flash-same
+
+same-length-10 : tie.Need-same-length-10 Inv-loop μ-loop
+same-length-10 c = c .before .before .loop .inv .spare-same
+
+same-length-11 : tie.Need-same-length-11 Inv-loop μ-loop
+same-length-11 c = c .before .before .loop .inv .disk-same
+
+same-length-12 : tie.Need-same-length-12 Inv-loop μ-loop
+same-length-12 c = c .before .before .loop .inv .out-same
+
+returns-2 : tie.Need-returns-2 Inv-loop μ-loop
+returns-2 c = let v = c .before .before .loop .inv in (v .alike, (v .sound, omega (arith, c .if1 .left, c .before .before .before .before .before .before .before .before .before .before .pre .1 .0), v .inside))
 
 pub advance-spec : {M : Type 1} → statement M
 advance-spec =
     tie.close
     (tie.spec
+    Inv-loop
+    μ-loop
+    loop-holds
+    sub-if2
     line-end-requires
     sub-gather
     part-gather-start
     part-gather-end
     gather-requires
+    slice-reshare-prefix-on-line
+    slice-aggregate-on-line
+    sub-on-line
+    part-on-line-start
+    part-on-line-end
+    on-line-requires
+    add-passed
+    add-printed
+    loop-less
+    loop-again
+    loop-less-2
+    loop-again-2
     same-length
-    returns
-    add-next
-    slice-reshare-prefix-walk-line
-    slice-aggregate-walk-line
-    walk-line-requires
     same-length-2
     same-length-3
     same-length-4
     same-length-5
     same-length-6
+    returns
     same-length-7
+    same-length-8
+    same-length-9
+    same-length-10
+    same-length-11
+    same-length-12
     returns-2)
