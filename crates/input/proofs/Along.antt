@@ -11,9 +11,9 @@ use Rattle.drive.specs.declared.Printed.{Printed as PrintedStruct}
 use Rattle.drive.specs.Recorder.{recorderOf, printedOf, Ready}
 use Rattle.lines.specs.Lines.{OneLine}
 use Rattle.input.specs.declared.Walk.{Walk}
-use Rattle.input.specs.Ahead.{ahead, shownOf, Sound}
+use Rattle.input.specs.Ahead.{ahead, Sound}
 use Rattle.input.proofs.Behind.{behind-inside}
-use Rattle.input.proofs.Onward.{line-held, line-walked, line-shown}
+use Rattle.input.proofs.Onward.{shownOf, line-held, line-walked, line-shown}
 
 module _ (piece : List ℕ) (w₀ : Walk) (line₀ buffer₀ flash₀ spare₀ disk₀ out₀ : List ℕ) where
   -- the walk w has come from w₀ on the same piece, and the whole output is to be the same

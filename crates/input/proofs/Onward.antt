@@ -12,9 +12,17 @@ use Rattle.drive.specs.declared.Printed.{Printed as PrintedStruct}
 use Rattle.drive.specs.Recorder.{recorderOf, printedOf}
 use Rattle.input.specs.declared.Walk.{Walk}
 use Rattle.lines.specs.Lines.{OneLine}
-use Rattle.input.specs.Ahead.{ahead, shownOf, lineShown}
+use Rattle.input.specs.Ahead.{ahead}
 use Rattle.input.proofs.Cut.{cut-lines}
 use Rattle.input.proofs.Behind.{take-behind}
+
+-- the recorder, and what is printed and not yet written
+abbrev pub shownOf : Walk → (flash spare disk out : List ℕ) → Printed
+shownOf w flash spare disk out = record { recorder = recorderOf (w .recorder) flash spare disk; text = take (w .printed) out }
+
+-- the same after a further line
+unfoldable pub lineShown : Printed → List ℕ → Printed
+lineShown p line = let q = onLine (p .recorder) line in record { recorder = q .recorder; text = p .text ++ q .text }
 
 -- a line's text behind what is printed
 pub line-shown : (w : Walk) (p : PrintedStruct) (line flash spare disk flash' spare' disk' out back rest : List ℕ)

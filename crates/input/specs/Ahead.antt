@@ -3,7 +3,7 @@ use Prim.Native.Nat.{ℕ, _≤_}
 use mathlib.Core.Path.{_≡_}
 use mathlib.Core.List.{List, _++_}
 use lib.ListN.{length, take}
-use Rattle.model.specs.Driving.{Printed, onLine, linesFrom, onLines}
+use Rattle.model.specs.Driving.{linesFrom, onLines}
 use Rattle.calls.specs.Arrays.{Arrays}
 use Rattle.drive.specs.Recorder.{recorderOf, Ready}
 use Rattle.input.specs.declared.Walk.{Walk}
@@ -11,14 +11,6 @@ use Rattle.input.specs.declared.Walk.{Walk}
 -- the whole output from here on, what is printed and not yet written first, if the rest of the input is this
 unfoldable pub ahead : Walk → (line flash spare disk out rest : List ℕ) → List ℕ
 ahead w line flash spare disk out rest = take (w .printed) out ++ onLines (recorderOf (w .recorder) flash spare disk) (linesFrom (take (w .held) line) rest)
-
--- the recorder, and what is printed and not yet written
-abbrev pub shownOf : Walk → (flash spare disk out : List ℕ) → Printed
-shownOf w flash spare disk out = record { recorder = recorderOf (w .recorder) flash spare disk; text = take (w .printed) out }
-
--- the same after a further line
-unfoldable pub lineShown : Printed → List ℕ → Printed
-lineShown p line = let q = onLine (p .recorder) line in record { recorder = q .recorder; text = p .text ++ q .text }
 
 -- what holds from step to step
 pub record Sound (w : Walk) (line buffer flash spare disk out : List ℕ) : Type 0 where
