@@ -22,7 +22,8 @@ use Rattle.model.proofs.Limits.{Limits}
 use Rattle.model.proofs.Formed.{Formed}
 use Rattle.model.proofs.BucketKinds.{back-below, complete-copy, copy-used, write-used}
 use Rattle.model.proofs.RecoverChoice.{in-buckets, from-buckets, chosen-of, chosen-test, only-of, dropped-write}
-use Rattle.classes.specs.Columns.{nowhere, inOrder, named, column, soleIn, absentFrom, lastOfEach, isNamed, allBut}
+use Rattle.classes.specs.Columns.{nowhere, inOrder, named, column, occurring, lastOfEach, isNamed, allBut}
+use Rattle.classes.proofs.Turns.{occurring-none}
 use Rattle.classes.proofs.Orders.{length-filtered, any-order, in-order, from-order, standing, newer-behind, newer-count}
 
 either : (u : Bool) → (if u then nowhere else nowhere) ≡ nowhere
@@ -114,10 +115,10 @@ module _ (z : Sizes) (d : Device) (limits : Limits z) (formed : Formed z d) wher
   unfolding isOnly
   not-only c e = rw e
 
-  pub sole-column : map (soleIn (column z d (isWrite z d))) (column z d (isWrite z d)) ≡ column z d (isOnly z d)
+  pub sole-column : map (occurring 1 (column z d (isWrite z d))) (column z d (isWrite z d)) ≡ column z d (isOnly z d)
   sole-column = map-map _ _ (inOrder z d) ∙ map-agree _ _ (inOrder z d) (λ c q. go c (in-order z d c q .1) (isWrite z d c) refl)
     where
-      go : (c : ℕ) → c < body z → (u : Bool) → isWrite z d c ≡ u → soleIn (column z d (isWrite z d)) (named z d (isWrite z d) c) ≡ named z d (isOnly z d) c
+      go : (c : ℕ) → c < body z → (u : Bool) → isWrite z d c ≡ u → occurring 1 (column z d (isWrite z d)) (named z d (isWrite z d) c) ≡ named z d (isOnly z d) c
       go c h true e = rw e (ap (λ (t : Bool). if t then backOf z d c else nowhere) (alone c h e))
       go c h false e = rw (e, not-only c e) (either (eqb (times nowhere (column z d (isWrite z d))) 1))
 
@@ -158,11 +159,12 @@ module _ (z : Sizes) (d : Device) (limits : Limits z) (formed : Formed z d) wher
                 let p = in-order z d (w .0) (k .1) in
                 absurd (omega (arith, ltb-true (epochOf z d c) (epochOf z d (w .0)) (k .0), chosen-of z d c q .is-newest (w .0) (p .1) (and-left (complete z d (w .0)) (eqb (backOf z d (w .0)) b) (w .2)) (eqb-true (backOf z d (w .0)) b (and-right (complete z d (w .0)) (eqb (backOf z d (w .0)) b) (w .2)))))
 
-    newest-named : absentFrom (map (named z d (complete z d)) behind) (named z d (complete z d) c) ≡ named z d (isChosen z d) c
+    newest-named : occurring 0 (map (named z d (complete z d)) behind) (named z d (complete z d) c) ≡ named z d (isChosen z d) c
     unfolding isCopyOf
-    newest-named = go (complete z d c) refl
+    newest-named = occurring-none (map (named z d (complete z d)) behind) (named z d (complete z d) c) ∙ go (complete z d c) refl
       where
-        go : (u : Bool) → complete z d c ≡ u → absentFrom (map (named z d (complete z d)) behind) (named z d (complete z d) c) ≡ named z d (isChosen z d) c
+        go : (u : Bool) → complete z d c ≡ u
+            → (if member (named z d (complete z d) c) (map (named z d (complete z d)) behind) then nowhere else named z d (complete z d) c) ≡ named z d (isChosen z d) c
         go true e =
             let p = in-order z d c (standing z d formed before c behind split) in
             rw (e, member-column z d (complete z d) (backOf z d c) behind (below-nowhere c (p .1) (p .0)))
@@ -259,12 +261,13 @@ module _ (z : Sizes) (d : Device) (limits : Limits z) (formed : Formed z d) wher
       go c true e = sym (write-of b c (dropped-write z d c e .0))
       go c false e = refl
 
-  pub absent-column : map (absentFrom (column z d (isDroppedWrite z d))) (column z d (isChosen z d)) ≡ column z d (isRemaining z d)
+  pub absent-column : map (occurring 0 (column z d (isDroppedWrite z d))) (column z d (isChosen z d)) ≡ column z d (isRemaining z d)
   unfolding isRemaining
-  absent-column = map-map _ _ (inOrder z d) ∙ map-agree _ _ (inOrder z d) (λ c q. go c q (isChosen z d c) refl)
+  absent-column = map-map _ _ (inOrder z d) ∙ map-agree _ _ (inOrder z d) (λ c q. occurring-none (column z d (isDroppedWrite z d)) (named z d (isChosen z d) c) ∙ go c q (isChosen z d c) refl)
     where
       go : (c : ℕ) → 1 ≤ times c (inOrder z d) → (u : Bool) → isChosen z d c ≡ u
-          → absentFrom (column z d (isDroppedWrite z d)) (if u then backOf z d c else nowhere) ≡ (if u && not (flushed z d (backOf z d c)) then backOf z d c else nowhere)
+          → (if member (if u then backOf z d c else nowhere) (column z d (isDroppedWrite z d)) then nowhere else (if u then backOf z d c else nowhere))
+          ≡ (if u && not (flushed z d (backOf z d c)) then backOf z d c else nowhere)
       go c q true e = let p = in-order z d c q in rw (flushed-column (backOf z d c) (below-nowhere c (p .1) (p .0))) (turned (flushed z d (backOf z d c)) (backOf z d c))
       go c q false e = either (member nowhere (column z d (isDroppedWrite z d)))
 

@@ -5,6 +5,7 @@ use mathlib.Core.Bool.{Bool, true, false, _&&_}
 use mathlib.Core.List.{List, [], _∷_, _++_, append-nil}
 use native.Mathlib.Numerals.{add-one}
 use native.Mathlib.Omega.{arith}
+use native.Mathlib.Decide.{ℕ-discrete}
 use lib.ListN.{length, take, drop, getD, set, drop-of-length-le}
 use lib.Seq.{drop-cons, take-all, length-take-le, getD-at, append-snoc}
 use lib.Dec.{ltb, eqb}
@@ -14,37 +15,31 @@ use Rattle.lists.proofs.Arrays.{done-more}
 use Rattle.lists.proofs.Lent.{copy-more}
 use Rattle.lists.proofs.Counts.{times-member}
 use Rattle.lists.proofs.Orders.{in-any}
-use Rattle.classes.specs.Columns.{nowhere, soleIn, absentFrom, lastOfEach, isNamed, allBut}
+use Rattle.classes.specs.Columns.{nowhere, occurring, lastOfEach, isNamed, allBut}
 
 -- ---- one back-end bucket
 
-module _ (l : List ℕ) (b : ℕ) where
-  pub sole-nowhere : b ≡ nowhere → nowhere ≡ soleIn l b
-  sole-nowhere e = rw e (go (eqb (times nowhere l) 1))
+module _ (n : ℕ) (l : List ℕ) (b : ℕ) where
+  pub occurring-nowhere : b ≡ nowhere → nowhere ≡ occurring n l b
+  occurring-nowhere e = rw e (go (eqb (times nowhere l) n))
     where
       go : (u : Bool) → nowhere ≡ (if u then nowhere else nowhere)
       go true = refl
       go false = refl
 
-  pub sole-once : times b l ≡ 1 → b ≡ soleIn l b
-  sole-once e = rw (eq-eqb (times b l) 1 e)
+  pub occurring-so : times b l ≡ n → b ≡ occurring n l b
+  occurring-so e = rw (eq-eqb (times b l) n e)
 
-  pub sole-other : (times b l ≡ 1 → ⊥) → nowhere ≡ soleIn l b
-  sole-other ne = rw (ne-eqb (times b l) 1 ne)
+  pub occurring-not : (times b l ≡ n → ⊥) → nowhere ≡ occurring n l b
+  occurring-not ne = rw (ne-eqb (times b l) n ne)
 
-  pub absent-nowhere : b ≡ nowhere → nowhere ≡ absentFrom l b
-  absent-nowhere e = rw e (go (member nowhere l))
-    where
-      go : (u : Bool) → nowhere ≡ (if u then nowhere else nowhere)
-      go true = refl
-      go false = refl
-
-  pub absent-none : times b l ≡ 0 → b ≡ absentFrom l b
-  absent-none e = rw (not-true (member b l) (times-member b l e))
-
-  pub absent-some : (times b l ≡ 0 → ⊥) → nowhere ≡ absentFrom l b
-  unfolding member
-  absent-some ne = rw (in-any (eqb b) l b (omega arith) (eq-eqb b b refl))
+pub occurring-none : (l : List ℕ) (b : ℕ) → occurring 0 l b ≡ (if member b l then nowhere else b)
+unfolding member
+occurring-none l b = go (ℕ-discrete (times b l) 0)
+  where
+    go : Dec (times b l ≡ 0) → occurring 0 l b ≡ (if member b l then nowhere else b)
+    go (yes e) = rw (eq-eqb (times b l) 0 e, not-true (member b l) (times-member b l e))
+    go (no ne) = rw (ne-eqb (times b l) 0 ne, in-any (eqb b) l b (omega arith) (eq-eqb b b refl))
 
 -- ---- columns
 
@@ -53,7 +48,7 @@ unfolding lastOfEach
 last-length [] = refl
 last-length (x ∷ l) = ap suc (last-length l)
 
-pub last-at : (l : List ℕ) (i : ℕ) → i < length l → getD (lastOfEach l) i 0 ≡ absentFrom (drop (i + 1) l) (getD l i 0)
+pub last-at : (l : List ℕ) (i : ℕ) → i < length l → getD (lastOfEach l) i 0 ≡ occurring 0 (drop (i + 1) l) (getD l i 0)
 unfolding lastOfEach
 last-at [] i h = absurd (omega arith)
 last-at (x ∷ l) zero h = refl

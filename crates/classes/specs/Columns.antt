@@ -5,7 +5,7 @@ use mathlib.Core.Bool.{Bool, true, false, not, _&&_}
 use mathlib.Core.List.{List, [], _∷_, map}
 use lib.ListN.{length}
 use lib.Dec.{ltb, eqb}
-use Rattle.lists.specs.Lists.{if_then_else_, keep, member, times}
+use Rattle.lists.specs.Lists.{if_then_else_, keep, times}
 use Rattle.model.specs.declared.Sizes.{Sizes}
 use Rattle.model.specs.Sizes.{Device}
 use Rattle.model.specs.Image.{used, backOf, isWrite, isCopy, complete}
@@ -50,18 +50,14 @@ module _ (z : Sizes) (d : Device) where
 
 -- ---- columns from columns
 
--- x, if it stands in the column once
-abbrev pub soleIn : List ℕ → ℕ → ℕ
-soleIn l x = if eqb (times x l) 1 then x else nowhere
-
--- x, if it does not stand in the column
-abbrev pub absentFrom : List ℕ → ℕ → ℕ
-absentFrom l x = if member x l then nowhere else x
+-- x, if it stands in the column so many times
+abbrev pub occurring : ℕ → List ℕ → ℕ → ℕ
+occurring n l x = if eqb (times x l) n then x else nowhere
 
 -- of equal numbers the last one
 unfoldable pub lastOfEach : List ℕ → List ℕ
 lastOfEach [] = []
-lastOfEach (x ∷ l) = absentFrom l x ∷ lastOfEach l
+lastOfEach (x ∷ l) = occurring 0 l x ∷ lastOfEach l
 
 abbrev pub isNamed : ℕ → Bool
 isNamed x = not (eqb x nowhere)

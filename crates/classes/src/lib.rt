@@ -14,7 +14,7 @@ ghost use Rattle.model.specs.Image.{isWrite, isCopy, wellFormed};
 ghost use Rattle.model.specs.Recover.{buckets, isChosen, isDroppedWrite, isDroppedCopy, isOldCopy};
 ghost use Rattle.fifo.specs.View.{listOf};
 ghost use Rattle.image.specs.Chip.{Chip, spareOnly};
-ghost use Rattle.classes.specs.Columns.{nowhere, inOrder, isUsed, isKind, named, column, soleIn, absentFrom, lastOfEach, isNamed, allBut};
+ghost use Rattle.classes.specs.Columns.{nowhere, inOrder, isUsed, isKind, named, column, occurring, lastOfEach, isNamed, allBut};
 
 // No back-end bucket: no B is above it.
 pub const NOWHERE: u16 = 65535;
@@ -133,56 +133,30 @@ pub fn occurrences(b: u16, column: &[u16]) -> u16
     count
 }
 
-fn sole_in(column: &[u16], b: u16) -> u16
+// b, if it stands in the column so many times.
+fn occurring(n: u16, column: &[u16], b: u16) -> u16
     requires { ⌜ length (now column) ≤ 256 ⌝ }
-    ensures { λ r. ⌜ r ≡ soleIn (now (column .entry)) b ⌝ }
+    ensures { λ r. ⌜ r ≡ occurring n (now (column .entry)) b ⌝ }
 {
     if b == NOWHERE {
         return NOWHERE;
     }
-    if occurrences(b, column) == 1 {
+    if occurrences(b, column) == n {
         b
     } else {
         NOWHERE
     }
 }
 
-fn absent_from(column: &[u16], b: u16) -> u16
-    requires { ⌜ length (now column) ≤ 256 ⌝ }
-    ensures { λ r. ⌜ r ≡ absentFrom (now (column .entry)) b ⌝ }
-{
-    if b == NOWHERE {
-        return NOWHERE;
-    }
-    if occurrences(b, column) == 0 {
-        b
-    } else {
-        NOWHERE
-    }
-}
-
-// Those that stand in the column once.
-fn sole(column: &[u16], out: &mut [u16])
-    requires { ⌜ length (now column) ≤ 256 ⌝ }
-    requires { ⌜ length (now out) ≡ length (now column) ⌝ }
-    ensures { λ _. ⌜ now (out .exit) ≡ map (soleIn (now (column .entry))) (now (column .entry)) ⌝ }
-{
-    let mut i = 0;
-    while i < column.len() {
-        out[i] = sole_in(column, column[i]);
-        i += 1;
-    }
-}
-
-// Those of one column that do not stand in the other.
-fn absent(other: &[u16], column: &[u16], out: &mut [u16])
+// Those of one column that stand in the other so many times.
+fn all_occurring(n: u16, other: &[u16], column: &[u16], out: &mut [u16])
     requires { ⌜ length (now other) ≤ 256 ⌝ }
     requires { ⌜ length (now out) ≡ length (now column) ⌝ }
-    ensures { λ _. ⌜ now (out .exit) ≡ map (absentFrom (now (other .entry))) (now (column .entry)) ⌝ }
+    ensures { λ _. ⌜ now (out .exit) ≡ map (occurring n (now (other .entry))) (now (column .entry)) ⌝ }
 {
     let mut i = 0;
     while i < column.len() {
-        out[i] = absent_from(other, column[i]);
+        out[i] = occurring(n, other, column[i]);
         i += 1;
     }
 }
@@ -196,7 +170,7 @@ fn last_of_each(column: &mut [u16])
     while i < column.len() {
         let b = column[i];
         let next = i + 1;
-        column[i] = absent_from(&column[next..], b);
+        column[i] = occurring(0, &column[next..], b);
         i = next;
     }
 }
@@ -232,7 +206,7 @@ pub fn write_columns(z: Sizes, order: &[u8], spare: &[u8], writes: &mut [u16], d
     ensures { λ _. ⌜ now (dropped .exit) ≡ column z (spareOnly (now (spare .entry))) (isDroppedWrite z (spareOnly (now (spare .entry)))) ⌝ }
 {
     fill(z, Kind::Write, order, spare, writes);
-    sole(writes, dropped);
+    all_occurring(1, writes, writes, dropped);
     all_but(z.w, writes, dropped);
 }
 
@@ -255,7 +229,7 @@ pub fn copy_columns(
 {
     fill(z, Kind::Complete, order, spare, copies);
     last_of_each(copies);
-    absent(writes, copies, dropped);
+    all_occurring(0, writes, copies, dropped);
     all_but(z.r, copies, dropped);
 }
 

@@ -18,8 +18,8 @@ last-of-each-requires : tie.Need-last-of-each-requires
 last-of-each-requires c κs = let s = c .before .before .before .before .before .before .before .before .before .before in
     omega (arith, c .before .before .copies .given, s .pre .1 .1 .1 .1 .0, ap length (s .pre .1 .1 .0), order-short (s .args .z) (spareOnly (s .args .spare .now)), s .pre .0 .limits .body-high, s .pre .0 .limits .c-high)
 
-absent-requires : tie.Need-absent-requires
-absent-requires c κs = let s = c .before .before .before .before .before .before .before .before .before .before .before .before .before .before .before in
+all-occurring-requires : tie.Need-all-occurring-requires
+all-occurring-requires c κs = let s = c .before .before .before .before .before .before .before .before .before .before .before .before .before .before .before in
     let z = s .args .z in
     let d = spareOnly (s .args .spare .now) in
     let n = ap length (s .pre .1 .1 .1 .0) ∙ length-map (inOrder z d) (named z d (isDroppedWrite z d)) in (
@@ -43,7 +43,7 @@ returns c = let s = c .before .before .before .before .before .before .before .b
     let formed = formed-of z d (s .pre .1 .0) in
     let chosen = last-column z d (s .pre .0 .limits) formed in
     let copies : c .before .before .before .before .before .before .before .before .before .before .before .before .last-of-each .last .0 ≡ column z d (isChosen z d) = c .before .before .before .before .before .before .before .before .before .before .before .before .last-of-each .ensures ∙ rw (c .before .before .before .before .before .before .before .before .before .before .before .before .before .before .before .before .fill .ensures) chosen in
-    (copies, c .before .before .all-but .ensures ∙ rw (c .before .before .before .before .before .before .before .absent .ensures, copies, s .pre .1 .1 .1 .0, absent-column z d (s .pre .0 .limits) formed) (dropped-copy-column z d (s .pre .0 .limits) formed))
+    (copies, c .before .before .all-but .ensures ∙ rw (c .before .before .before .before .before .before .before .all-occurring .ensures, copies, s .pre .1 .1 .1 .0, absent-column z d (s .pre .0 .limits) formed) (dropped-copy-column z d (s .pre .0 .limits) formed))
 
 pub copy-columns-spec : {M : Type 1} → statement M
 copy-columns-spec =
@@ -51,7 +51,7 @@ copy-columns-spec =
     (tie.spec
     fill-requires
     last-of-each-requires
-    absent-requires
+    all-occurring-requires
     all-but-requires
     same-length
     same-length-2

@@ -28,20 +28,20 @@ slice-read-b c = omega arith
 add-next : tie.Need-add-next Inv-loop μ-loop
 add-next c = omega arith
 
-mul-absent-from : tie.Need-mul-absent-from Inv-loop μ-loop
-mul-absent-from c = search needs
+mul-occurring : tie.Need-mul-occurring Inv-loop μ-loop
+mul-occurring c = search needs
 
-sub-absent-from : tie.Need-sub-absent-from Inv-loop μ-loop
-sub-absent-from c = search needs
+sub-occurring : tie.Need-sub-occurring Inv-loop μ-loop
+sub-occurring c = search needs
 
-part-absent-from-start : tie.Need-part-absent-from-start Inv-loop μ-loop
-part-absent-from-start c = search needs
+part-occurring-start : tie.Need-part-occurring-start Inv-loop μ-loop
+part-occurring-start c = search needs
 
-part-absent-from-end : tie.Need-part-absent-from-end Inv-loop μ-loop
-part-absent-from-end c = search needs
+part-occurring-end : tie.Need-part-occurring-end Inv-loop μ-loop
+part-occurring-end c = search needs
 
-absent-from-requires : tie.Need-absent-from-requires Inv-loop μ-loop
-absent-from-requires c κs = let l = c .before .before .before .before .loop in rw (lent-rest (l .column) (l .i + 1)) (omega (arith, length-drop (l .i + 1) (l .column), l .inv .1))
+occurring-requires : tie.Need-occurring-requires Inv-loop μ-loop
+occurring-requires c κs = let l = c .before .before .before .before .loop in rw (lent-rest (l .column) (l .i + 1)) (omega (arith, length-drop (l .i + 1) (l .column), l .inv .1))
 
 mul-column : tie.Need-mul-column Inv-loop μ-loop
 mul-column c = search needs
@@ -50,15 +50,15 @@ slice-write-column : tie.Need-slice-write-column Inv-loop μ-loop
 slice-write-column c = omega arith
 
 loop-less : tie.Need-loop-less Inv-loop μ-loop
-loop-less c = let l = c .before .before .before .before .before .loop in omega (arith, length-set (l .column) (l .i) (c .absent-from .result))
+loop-less c = let l = c .before .before .before .before .before .loop in omega (arith, length-set (l .column) (l .i) (c .occurring .result))
 
 loop-again : tie.Need-loop-again Inv-loop μ-loop
 loop-again c = let l = c .before .before .before .before .before .loop in
     let col = c .before .before .before .before .before .before .before .args .column .now in
-    let k = length-set (l .column) (l .i) (c .absent-from .result) in
+    let k = length-set (l .column) (l .i) (c .occurring .result) in
     let n = last-length col in
-    let value : c .absent-from .result ≡ getD (lastOfEach col) (l .i) 0 =
-    c .absent-from .ensures
+    let value : c .occurring .result ≡ getD (lastOfEach col) (l .i) 0 =
+    c .occurring .ensures
     ∙ rw (lent-rest (l .column) (l .i + 1), later (lastOfEach col) col (sym n) (l .i) (l .inv .3) (omega arith), here (lastOfEach col) col (sym n) (l .i) (l .inv .3) (omega arith))
     (sym (last-at col (l .i) (omega arith))) in
     (omega arith, omega (arith, l .inv .1), k ∙ l .inv .2, fill-more (lastOfEach col) col (sym n) (l .i) (l .inv .3) (omega arith) value)
@@ -81,11 +81,11 @@ last-of-each-spec =
     mul-b
     slice-read-b
     add-next
-    mul-absent-from
-    sub-absent-from
-    part-absent-from-start
-    part-absent-from-end
-    absent-from-requires
+    mul-occurring
+    sub-occurring
+    part-occurring-start
+    part-occurring-end
+    occurring-requires
     mul-column
     slice-write-column
     loop-less

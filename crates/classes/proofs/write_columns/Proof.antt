@@ -12,8 +12,8 @@ use Rattle.classes.proofs.write_columns.Tie as tie
 fill-requires : tie.Need-fill-requires
 fill-requires c κs = search needs
 
-sole-requires : tie.Need-sole-requires
-sole-requires c κs = let s = c .before .before .before .before .before .before .before .before .before .before in
+all-occurring-requires : tie.Need-all-occurring-requires
+all-occurring-requires c κs = let s = c .before .before .before .before .before .before .before .before .before .before in
     let n = ap length (s .pre .1 .1 .0) in (
       omega (arith, c .before .before .before .writes .given, s .pre .1 .1 .1 .0, n, order-short (s .args .z) (spareOnly (s .args .spare .now)), s .pre .0 .limits .body-high, s .pre .0 .limits .c-high),
       omega (arith, c .before .before .before .writes .given, s .pre .1 .1 .1 .0, s .pre .1 .1 .1 .1),
@@ -34,9 +34,9 @@ returns c = let s = c .before .before .before .before .before .before .before .b
     let d = spareOnly (s .args .spare .now) in
     let formed = formed-of z d (s .pre .1 .0) in
     let writes = c .before .before .before .before .before .before .before .before .before .before .before .before .fill .ensures in
-    (writes, c .before .before .all-but .ensures ∙ rw (c .before .before .before .before .before .before .before .sole .ensures, writes, sole-column z d (s .pre .0 .limits) formed) (dropped-write-column z d (s .pre .0 .limits) formed))
+    (writes, c .before .before .all-but .ensures ∙ rw (c .before .before .before .before .before .before .before .all-occurring .ensures, writes, sole-column z d (s .pre .0 .limits) formed) (dropped-write-column z d (s .pre .0 .limits) formed))
 
 pub write-columns-spec : {M : Type 1} → statement M
 write-columns-spec =
     tie.close
-    (tie.spec fill-requires sole-requires all-but-requires same-length same-length-2 returns)
+    (tie.spec fill-requires all-occurring-requires all-but-requires same-length same-length-2 returns)

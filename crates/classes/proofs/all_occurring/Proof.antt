@@ -1,32 +1,32 @@
 use Rattle.lists.proofs.Filters.{mapped-at}
 use Rattle.classes.proofs.Turns.{fill-more, fill-end}
-use Rattle.classes.specs.Columns.{absentFrom}
+use Rattle.classes.specs.Columns.{occurring}
 use lib.ListN.{length, take, drop, length-set, length-map}
 use mathlib.Core.List.{map, _++_}
 use mathlib.Core.Path.{_≡_, refl, sym, _∙_}
 use Prim.Native.Nat.{_≤_, _-_}
 use native.Mathlib.Omega.{arith}
 use borrow.Author.Needs.{needs}
-use Rattle.classes.proofs.absent.Statement.{statement}
-use Rattle.classes.proofs.absent.Tie as tie
+use Rattle.classes.proofs.all_occurring.Statement.{statement}
+use Rattle.classes.proofs.all_occurring.Tie as tie
 
 abbrev Inv-loop : tie.InvT-loop
-Inv-loop other column out₀ i₀ out i = (i ≤ length column) × (length other ≤ 256) × (length out ≡ length column) × (length out₀ ≡ length column) × (out ≡ take i (map (absentFrom other) column) ++ drop i out₀)
+Inv-loop n other column out₀ i₀ out i = (i ≤ length column) × (length other ≤ 256) × (length out ≡ length column) × (length out₀ ≡ length column) × (out ≡ take i (map (occurring n other) column) ++ drop i out₀)
 
 abbrev μ-loop : tie.MeasureT-loop
-μ-loop other column out₀ i₀ out i = length column - i
+μ-loop n other column out₀ i₀ out i = length column - i
 
 loop-holds : tie.Need-loop-holds Inv-loop μ-loop
 loop-holds c = (omega arith, search needs, search needs, search needs, refl)
 
-mul-absent-from : tie.Need-mul-absent-from Inv-loop μ-loop
-mul-absent-from c = search needs
+mul-occurring : tie.Need-mul-occurring Inv-loop μ-loop
+mul-occurring c = search needs
 
-shared-slice-read-absent-from : tie.Need-shared-slice-read-absent-from Inv-loop μ-loop
-shared-slice-read-absent-from c = omega arith
+shared-slice-read-occurring : tie.Need-shared-slice-read-occurring Inv-loop μ-loop
+shared-slice-read-occurring c = omega arith
 
-absent-from-requires : tie.Need-absent-from-requires Inv-loop μ-loop
-absent-from-requires c κs = search needs
+occurring-requires : tie.Need-occurring-requires Inv-loop μ-loop
+occurring-requires c κs = search needs
 
 mul-out : tie.Need-mul-out Inv-loop μ-loop
 mul-out c = search needs
@@ -43,12 +43,12 @@ loop-less c = omega arith
 loop-again : tie.Need-loop-again Inv-loop μ-loop
 loop-again c = let l = c .before .before .before .loop in
     let x = c .before .before .before .before .before .before .before .args in
-    let k = length-map (x .column .now) (absentFrom (x .other .now)) in (
+    let k = length-map (x .column .now) (occurring (x .n) (x .other .now)) in (
       omega arith,
       l .inv .1,
       length-set (l .out) (l .i) _ ∙ l .inv .2,
       l .inv .3,
-      fill-more (map (absentFrom (x .other .now)) (x .column .now)) (x .out .now) (l .inv .3 ∙ sym k) (l .i) (l .inv .4) (omega arith) (c .absent-from .ensures ∙ sym (mapped-at (absentFrom (x .other .now)) (x .column .now) (l .i) 0 (omega arith))),
+      fill-more (map (occurring (x .n) (x .other .now)) (x .column .now)) (x .out .now) (l .inv .3 ∙ sym k) (l .i) (l .inv .4) (omega arith) (c .occurring .ensures ∙ sym (mapped-at (occurring (x .n) (x .other .now)) (x .column .now) (l .i) 0 (omega arith))),
     )
 
 same-length : tie.Need-same-length Inv-loop μ-loop
@@ -57,19 +57,19 @@ same-length c = omega arith
 returns : tie.Need-returns Inv-loop μ-loop
 returns c = let l = c .before .loop in
     let x = c .before .before .before .before .before .args in
-    let k = length-map (x .column .now) (absentFrom (x .other .now)) in
-    fill-end (map (absentFrom (x .other .now)) (x .column .now)) (x .out .now) (l .inv .3 ∙ sym k) (l .i) (l .inv .4) (omega arith)
+    let k = length-map (x .column .now) (occurring (x .n) (x .other .now)) in
+    fill-end (map (occurring (x .n) (x .other .now)) (x .column .now)) (x .out .now) (l .inv .3 ∙ sym k) (l .i) (l .inv .4) (omega arith)
 
-pub absent-spec : {M : Type 1} → statement M
-absent-spec =
+pub all-occurring-spec : {M : Type 1} → statement M
+all-occurring-spec =
     tie.close
     (tie.spec
     Inv-loop
     μ-loop
     loop-holds
-    mul-absent-from
-    shared-slice-read-absent-from
-    absent-from-requires
+    mul-occurring
+    shared-slice-read-occurring
+    occurring-requires
     mul-out
     slice-write-out
     add-i
