@@ -35,7 +35,7 @@ def head(height):
     return (f'<svg xmlns="http://www.w3.org/2000/svg" width="{width}" height="{height}" '
             f'viewBox="0 0 {width} {height}" font-family="sans-serif" font-size="12">\n'
             f'<rect width="{width}" height="{height}" fill="white"/>\n'
-            + label(8, 20, "Time of the proved code over that of the Rust engine (bar: ratio of medians; "
+            + label(8, 20, "Time of the proved code over that of the Rust engine (bar: median ratio of repeats; "
                            "line: quartiles of the repeats)", "start")
             + label(8, 36, "Green mark: the same of a bare pass over the spare bytes, which every call needs", "start"))
 

@@ -15,15 +15,21 @@ Limit = collections.namedtuple("Limit", "seconds count")
 
 
 def ratio(row):
-    """The ratio of the medians: what a row is judged by."""
-    return statistics.median(row.proved) / statistics.median(row.rust)
+    """The median of the ratios of single repeats: what a row is judged by. A machine that changes its speed on the
+    way slows both sides of a repeat."""
+    return statistics.median(single_ratios(row))
 
 
 def spread(row):
     """The quartiles of the ratios of single repeats: how noisy the row is."""
-    ratios = [one / other for one, other in zip(row.proved, row.rust)]
+    ratios = single_ratios(row)
     low, _, high = statistics.quantiles(ratios, n=4) if len(ratios) > 1 else ratios * 3
     return low, high
+
+
+def single_ratios(row):
+    """Proved over Rust, of each repeat: the two sides take turns."""
+    return [one / other for one, other in zip(row.proved, row.rust)]
 
 
 def limit_ratio(row, limit):
