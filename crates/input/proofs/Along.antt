@@ -21,8 +21,8 @@ module _ (piece : List ℕ) (w₀ : Walk) (line₀ buffer₀ flash₀ spare₀ d
     pub sound : Sound w line buffer flash spare disk out
     pub alike : (rest : List ℕ) → ahead w line flash spare disk out (drop (w .passed) piece ++ rest) ≡ ahead w₀ line₀ flash₀ spare₀ disk₀ out₀ (drop (w₀ .passed) piece ++ rest)
     pub inside : w .passed ≤ length piece
-    -- where nothing is passed nothing is printed
     pub onward : w₀ .passed ≤ w .passed
+    -- where nothing is passed nothing is printed
     pub still : w .passed ≡ w₀ .passed → w .printed ≡ w₀ .printed
     pub line-same : length line ≡ length line₀
     pub buffer-same : length buffer ≡ length buffer₀
