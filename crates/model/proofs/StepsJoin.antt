@@ -5,18 +5,18 @@ use mathlib.Core.Logic.{_≢_}
 use mathlib.Core.Bool.{true≢false}
 use mathlib.Core.List.{List, [], _∷_, _++_, map}
 use native.Mathlib.Decide.{ℕ-discrete}
-use Rattle.lists.specs.Lists.{times, ff}
+use Rattle.lists.specs.Lists.{times}
 use Rattle.lists.proofs.Rows.{map-append}
 use Rattle.lists.proofs.Counts.{times-only}
 use Rattle.model.specs.declared.Sizes.{Sizes}
 use Rattle.model.specs.Sizes.{Device}
-use Rattle.model.specs.Stores.{Store, erase, apply, applyAll, tagOf}
+use Rattle.model.specs.Stores.{Store, erase, apply, applyAll}
 use Rattle.model.specs.Image.{backOf}
 use Rattle.model.proofs.Views.{SafeAt}
 use Rattle.model.proofs.Retire.{Without, retire-others}
 use Rattle.model.proofs.Erases.{without-gone}
 use Rattle.model.proofs.Safe.{view, plainAt, Safe, Along, Ready}
-use Rattle.model.proofs.Frames.{Lengths, tag-erased}
+use Rattle.model.proofs.Frames.{Lengths}
 use Rattle.model.proofs.Show.{Same, same-erase}
 use Rattle.model.proofs.Prefix.{along-end, along-append}
 use Rattle.model.proofs.Buckets.{gives-other, holds-other}

@@ -1,5 +1,5 @@
 -- What a page's 16 spare bytes say.
-use Prim.Native.Nat.{ℕ, zero, _+_, _-_, _*_, _/_, _%_}
+use Prim.Native.Nat.{ℕ, _+_, _-_, _*_, _/_, _%_}
 use mathlib.Core.Bool.{Bool}
 use mathlib.Core.List.{List, [], _∷_}
 use lib.ListN.{getD}

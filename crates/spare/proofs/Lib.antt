@@ -1,3 +1,2 @@
-pub mod RoundTrip
 pub mod Looked
 pub mod Runs
