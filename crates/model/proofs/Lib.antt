@@ -62,3 +62,4 @@ pub mod StoresMade
 pub mod Programs
 pub mod ProgramsPool
 pub mod ProgramsRise
+pub mod LogComesLast

@@ -8,7 +8,8 @@ use native.Mathlib.Omega.{arith}
 use native.Mathlib.Decide.{ℕ-discrete}
 use lib.ListN.{length}
 use Rattle.lists.specs.Lists.{row, all, concatMap}
-use Rattle.lists.proofs.Tests.{and-left, and-right, and-true}
+use Rattle.lists.proofs.Tests.{and-true}
+use Rattle.lists.proofs.Arrays.{all-append}
 use Rattle.model.specs.declared.Sizes.{Sizes}
 use Rattle.model.specs.Sizes.{Device, pagesFor}
 use Rattle.model.specs.Stores.{Store, program, erase, unit, apply, applyAll, tagOf, pageBytes, unitStore, unitStores}
@@ -42,24 +43,23 @@ module _ (z : Sizes) where
   rising-append (erase c ∷ ss) ts d r q = rising-append ss ts (apply z d (erase c)) r q
   rising-append (unit u bytes ∷ ss) ts d r q = rising-append ss ts (apply z d (unit u bytes)) r q
 
-none-append : (ss ts : List Store) → all isNoProgram ss ≡ true → all isNoProgram ts ≡ true → all isNoProgram (ss ++ ts) ≡ true
-unfolding all
-none-append [] ts h k = k
-none-append (s ∷ ss) ts h k = and-true (and-left (isNoProgram s) (all isNoProgram ss) h) (none-append ss ts (and-right (isNoProgram s) (all isNoProgram ss) h) k)
+-- a test of every store: of two runs, and of a row
+pub all-joined : (t : Store → Bool) (ss ts : List Store) → all t ss ≡ true → all t ts ≡ true → all t (ss ++ ts) ≡ true
+all-joined t ss ts h k = all-append t ss ts ∙ and-true h k
 
-none-row : (n : ℕ) (f : ℕ → Store) → ((o : ℕ) → isNoProgram (f o) ≡ true) → all isNoProgram (row n f) ≡ true
+pub all-row : (t : Store → Bool) (n : ℕ) (f : ℕ → Store) → ((o : ℕ) → t (f o) ≡ true) → all t (row n f) ≡ true
 unfolding row all
-none-row zero f h = refl
-none-row (suc n) f h = none-append (row n f) (f n ∷ []) (none-row n f h) (and-true (h n) refl)
+all-row t zero f h = refl
+all-row t (suc n) f h = all-joined t (row n f) (f n ∷ []) (all-row t n f h) (and-true (h n) refl)
 
 pub none-units : (z : Sizes) (b : ℕ) (bytes : List ℕ) → all isNoProgram (unitStores z b bytes) ≡ true
 unfolding unitStores unitStore isNoProgram
-none-units z b bytes = none-row (z .p) (unitStore z b bytes) (λ u. refl)
+none-units z b bytes = all-row isNoProgram (z .p) (unitStore z b bytes) (λ u. refl)
 
 pub none-concat : (f : ℕ → List Store) → ((b : ℕ) → all isNoProgram (f b) ≡ true) → (l : List ℕ) → all isNoProgram (concatMap f l) ≡ true
 unfolding concatMap all
 none-concat f h [] = refl
-none-concat f h (b ∷ l) = none-append (f b) (concatMap f l) (h b) (none-concat f h l)
+none-concat f h (b ∷ l) = all-joined isNoProgram (f b) (concatMap f l) (h b) (none-concat f h l)
 
 pub none-erase : (l : List ℕ) → all isNoProgram (map erase l) ≡ true
 unfolding all isNoProgram

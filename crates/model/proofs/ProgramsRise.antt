@@ -44,7 +44,7 @@ format-none : (z : Sizes) → all isNoProgram (format z .stores) ≡ true
 unfolding format
 format-none z = none-erase (below (z .c))
 
-erase-none : (z : Sizes) (s : State) (d : Device) → all isNoProgram (eraseStep z s d .stores) ≡ true
+pub erase-none : (z : Sizes) (s : State) (d : Device) → all isNoProgram (eraseStep z s d .stores) ≡ true
 unfolding eraseStep freed nothing all isNoProgram
 erase-none z s d = go (true-or-false (empty (s .gc)))
   where
@@ -85,7 +85,7 @@ module _ (s : State) (d : Device) (pass : Passed s d) where
       go c true h = omega arith
       go c false h = omega arith
 
-  some : (empty (s .free) ≡ false) ⊎ (empty (s .gc) ≡ false)
+  pub some : (empty (s .free) ≡ false) ⊎ (empty (s .gc) ≡ false)
   unfolding stateFits
   some = some-left (body z) s (once-of (body z) s (every-at _ (pass .state-fits) 0))
       (omega (arith, leb-true (length (s .reads)) (z .r) (every-at _ (pass .state-fits) 1), leb-true (length (s .writes)) (z .w) (every-at _ (pass .state-fits) 2), bounds s d pass .room))
@@ -99,9 +99,9 @@ module _ (s : State) (d : Device) (pass : Passed s d) where
   -- ---- a read
 
   -- a copy may follow
-  record Able (t : State) : Type 0 where
-    some-there : (empty (t .free) ≡ false) ⊎ (empty (t .gc) ≡ false)
-    reads-there : (b c : ℕ) → Maps (t .reads) b c → c < body (s .sizes)
+  pub record Able (t : State) : Type 0 where
+    pub some-there : (empty (t .free) ≡ false) ⊎ (empty (t .gc) ≡ false)
+    pub reads-there : (b c : ℕ) → Maps (t .reads) b c → c < body (s .sizes)
 
   module _ (b r : ℕ) (m : Maps (s .reads) b r) where
     abbrev left : State
@@ -132,7 +132,7 @@ module _ (s : State) (d : Device) (pass : Passed s d) where
             let u = units-rise z s d start b (read-back s d pass b r m) (bucketBytes z d r) (length-bucket z d (lens s d pass) r (on-chip z r (reads-in s d pass b r m))) in
             rw q (record { rising = u .rising; pool = left-pool _ (u .pool) })
 
-  oldest-rises : Rises (s .sizes) (dropOldest (s .sizes) s d) d × Able (dropOldest (s .sizes) s d .state)
+  pub oldest-rises : Rises (s .sizes) (dropOldest (s .sizes) s d) d × Able (dropOldest (s .sizes) s d .state)
   unfolding dropOldest withoutOldest stateFits nothing
   oldest-rises = go (true-or-false (ltb (length (s .reads)) (z .r)))
     where
@@ -164,9 +164,9 @@ module _ (s : State) (d : Device) (pass : Passed s d) where
   -- ---- a write
 
   -- a bucket may be taken afterwards
-  record Opens (p : Plan) : Type 0 where
-    rises : Rises (s .sizes) p d
-    some-there : (empty (p .state .free) ≡ false) ⊎ (empty (p .state .gc) ≡ false)
+  pub record Opens (p : Plan) : Type 0 where
+    pub rises : Rises (s .sizes) p d
+    pub some-there : (empty (p .state .free) ≡ false) ⊎ (empty (p .state .gc) ≡ false)
 
   -- v's Write bucket leaves
   module _ (v : ℕ) (h : holds v (s .writes) ≡ true) where
@@ -197,7 +197,7 @@ module _ (s : State) (d : Device) (pass : Passed s d) where
         go (inl q) = rw q (leaves (copy z dirtyKind v (merged z s d v)) (copied dirtyKind v (omega arith) hv s d start (record { some-there = some; reads-there = reads-in s d pass })) (copy-writes z dirtyKind v (merged z s d v) s d some))
         go (inr q) = rw q (leaves (writeOut z v (merged z s d v)) (units-rise z s d start v hv (merged z s d v) (merged-size s d pass v hv)) refl)
 
-  way-opens : (b : ℕ) → Opens (makeWay (s .sizes) b s d)
+  pub way-opens : (b : ℕ) → Opens (makeWay (s .sizes) b s d)
   unfolding makeWay outgoing evictAny nothing
   way-opens b = go (true-or-false (holds b (s .writes))) (true-or-false (leb (z .w) (length (s .writes))))
     where
