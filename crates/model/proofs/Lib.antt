@@ -63,3 +63,4 @@ pub mod Programs
 pub mod ProgramsPool
 pub mod ProgramsRise
 pub mod LogComesLast
+pub mod Allocations

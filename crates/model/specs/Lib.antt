@@ -12,3 +12,4 @@ pub mod Driving
 pub mod Promise
 pub mod Companions
 pub mod StoresMade
+pub mod Allocations

@@ -1,20 +1,18 @@
--- What number 5 says of the queues once it is passed: Allocate always finds a bucket.
+-- What number 5 says of the queues once it is passed.
 use Prim.Native.Nat.{ℕ, _+_, _≤_, _<_}
 use mathlib.Core.Path.{_≡_, sym, _∙_}
 use mathlib.Core.Bool.{true, false}
-use mathlib.Core.Logic.{⊎-elim}
-use mathlib.Core.List.{List, [], _∷_, _++_}
+use mathlib.Core.List.{List}
 use native.Mathlib.Omega.{arith}
 use lib.ListN.{length, length-append, length-map}
-use borrow.Author.Tests.{eqb-true, leb-true, ltb-true, lt-ltb, ne-eqb}
+use borrow.Author.Tests.{eqb-true, leb-true, ltb-true, lt-ltb}
 use Rattle.lists.specs.Lists.{empty, head, all}
-use Rattle.lists.proofs.Tests.{every-at, true-or-false}
-use Rattle.lists.proofs.Arrays.{empty-length, all-at}
+use Rattle.lists.proofs.Tests.{every-at}
+use Rattle.lists.proofs.Arrays.{all-at}
 use Rattle.lists.proofs.Counts.{all-in, in-all}
 use Rattle.model.specs.declared.Sizes.{Sizes}
 use Rattle.model.specs.Sizes.{Device, limits, body}
-use Rattle.model.specs.State.{State, moved, caches, queued, isBelow, eachOnce, stateFits}
-use Rattle.model.specs.Steps.{makeRoom, eraseStep, nothing, freed}
+use Rattle.model.specs.State.{State, caches, queued, isBelow, eachOnce, stateFits}
 use Rattle.model.proofs.Limits.{limits-of, on-chip}
 use Rattle.state.specs.View.{Bounded}
 use Rattle.state.proofs.Bounds.{not-empty}
@@ -53,25 +51,8 @@ module _ (s : State) where
         next = leb-true (s .next) 4294967296 (t 11);
       }
 
-  module _ (d : Device) (fits : stateFits s d ≡ true) (limited : limits (s .sizes) ≡ true) where
-    pub bounded : Bounded s
-    bounded =
-        let q = queues-hold d fits in
-        let l = limits-of (s .sizes) limited in
-        record { reads = omega arith; writes = omega arith; total = omega arith; next = omega arith }
-
-    -- "if the free queue is empty, do the erase step first": then there is a GC head
-    pub some-gc : empty (s .free) ≡ true → empty (s .gc) ≡ false
-    some-gc e =
-        let q = queues-hold d fits in
-        let l = limits-of (s .sizes) limited in
-        let n : length (s .free) ≡ 0 = eqb-true (length (s .free)) 0 (sym (empty-length (s .free)) ∙ e) in
-        empty-length (s .gc) ∙ ne-eqb (length (s .gc)) 0 (λ h. omega arith)
-
-    pub allocates : (e : Device) → empty (makeRoom (s .sizes) s e .state .free) ≡ false
-    unfolding makeRoom eraseStep nothing freed moved
-    allocates e =
-        ⊎-elim
-        (λ e. rw (some-gc e, e) (empty-length (s .free ++ (head (s .gc) ∷ [])) ∙ ne-eqb (length (s .free ++ (head (s .gc) ∷ []))) 0 (λ h. omega (arith, simp length-append at h))))
-        (λ e. rw e e)
-        (true-or-false (empty (s .free)))
+  pub bounded : (d : Device) → stateFits s d ≡ true → limits (s .sizes) ≡ true → Bounded s
+  bounded d fits limited =
+      let q = queues-hold d fits in
+      let l = limits-of (s .sizes) limited in
+      record { reads = omega arith; writes = omega arith; total = omega arith; next = omega arith }
