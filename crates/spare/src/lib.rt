@@ -1,9 +1,9 @@
 // The sixteen spare bytes of a page: written from fields, and looked at.
 ghost use mathlib.Core.Path.{_≡_};
 ghost use Prim.Native.Nat.{_+_, _*_, _≤_};
-ghost use lib.Dec.{ltb, eqb};
+ghost use lib.Dec.{eqb};
 ghost use lib.ListN.{length};
-ghost use Rattle.lists.specs.Lists.{if_then_else_, allBelow, same, part, ff};
+ghost use Rattle.lists.specs.Lists.{allBelow, same, part, ff};
 ghost use Rattle.model.specs.Spare.{two, four, blank, kind, ordinal, pages, epoch, back, zeros};
 ghost use Rattle.spare.specs.Fields.{tag, fields, seen, blankFrom};
 
@@ -113,44 +113,38 @@ pub fn equal(a: &[u8], b: &[u8]) -> bool
     alike
 }
 
-// Whether these are the spare bytes of an erased page.
-pub fn is_blank(bytes: &[u8]) -> bool
-    ensures { λ r. ⌜ r ≡ blank (now (bytes .entry)) ⌝ }
+// Whether pages, one behind the other, all have these sixteen spare bytes. With no way out the loop takes many bytes at a time.
+fn all_pages(bytes: &[u8], erased: &[u8]) -> bool
+    requires { ⌜ now erased ≡ ff 16 ⌝ }
+    ensures { λ r. ⌜ r ≡ same (now (bytes .entry)) (ff (length (now (bytes .entry)))) ⌝ }
 {
-    equal(
+    let mut alike = true;
+    let mut i = 0;
+    while i < bytes.len() {
+        alike = alike & (bytes[i] == erased[i % 16]);
+        i += 1;
+    }
+    alike
+}
+
+// "An erased spare area is sixteen bytes FF": whether pages, one behind the other, are erased.
+fn all_erased(bytes: &[u8]) -> bool
+    ensures { λ r. ⌜ r ≡ same (now (bytes .entry)) (ff (length (now (bytes .entry)))) ⌝ }
+{
+    all_pages(
         bytes,
         b"\xff\xff\xff\xff\xff\xff\xff\xff\xff\xff\xff\xff\xff\xff\xff\xff",
     )
 }
 
-fn smaller(a: u8, b: u8) -> u8
-    ensures { λ r. ⌜ r ≡ (if ltb a b then a else b) ⌝ }
+// Whether these are the spare bytes of an erased page.
+pub fn is_blank(bytes: &[u8]) -> bool
+    ensures { λ r. ⌜ r ≡ blank (now (bytes .entry)) ⌝ }
 {
-    if a < b { a } else { b }
-}
-
-// The least of the bytes, or FF: with no way out the loop takes many at a time.
-fn least(bytes: &[u8]) -> u8
-    ensures { λ r. ⌜ eqb r 255 ≡ same (now (bytes .entry)) (ff (length (now (bytes .entry)))) ⌝ }
-{
-    let mut least = 255;
-    let mut i = 0;
-    while i < bytes.len() {
-        least = smaller(least, bytes[i]);
-        i += 1;
-    }
-    least
-}
-
-// Whether the spare bytes of a run of pages are erased: those of the first are, and no byte of the others is less than its bytes.
-fn run_blank(bytes: &[u8]) -> bool
-    requires { ⌜ 16 ≤ length (now bytes) ⌝ }
-    ensures { λ r. ⌜ r ≡ same (now (bytes .entry)) (ff (length (now (bytes .entry)))) ⌝ }
-{
-    if !is_blank(&bytes[..16]) {
+    if bytes.len() != 16 {
         return false;
     }
-    least(&bytes[16..]) == bytes[0]
+    all_erased(bytes)
 }
 
 // Whether n pages of the spare area are all blank, from this page on.
@@ -158,12 +152,9 @@ pub fn are_blank(spare: &[u8], page: usize, n: usize) -> bool
     requires { ⌜ (page + n) * 16 ≤ length (now spare) ⌝ }
     ensures { λ r. ⌜ r ≡ allBelow n (blankFrom (now (spare .entry)) page) ⌝ }
 {
-    if n == 0 {
-        return true;
-    }
     let start = page * 16;
     let end = (page + n) * 16;
-    run_blank(&spare[start..end])
+    all_erased(&spare[start..end])
 }
 
 // What sixteen spare bytes are: those of an erased page, or fields.

@@ -1,0 +1,48 @@
+use mathlib.Core.Bool.{true, false}
+use mathlib.Core.Path.{_≡_, sym, _∙_}
+use borrow.Author.Tests.{not-true, not-false}
+use borrow.Author.Needs.{needs}
+use Rattle.lists.proofs.Tests.{every-at}
+use Rattle.model.specs.Sizes.{body}
+use Rattle.model.specs.State.{queued, eachOnce}
+use Rattle.image.specs.Chip.{spareOnly}
+use Rattle.state.specs.View.{placesOf}
+use Rattle.fits.proofs.Parts.{parts}
+use Rattle.fits.proofs.places_fit.Statement.{statement}
+use Rattle.fits.proofs.places_fit.Tie as tie
+
+buckets-once-requires : tie.Need-buckets-once-requires
+buckets-once-requires c κs = search needs
+
+returns : tie.Need-returns
+returns c = let s = placesOf (c .before .before .before .args .s) in
+    let e : eachOnce (body (s .sizes)) (queued s) ≡ false = sym (c .before .buckets-once .ensures) ∙ not-true _ (c .if1 .taken) in
+    rw (parts s (spareOnly (c .before .before .before .args .spare .now)), e)
+
+queues-fit-requires : tie.Need-queues-fit-requires
+queues-fit-requires c κs = search needs
+
+tags-agree-requires : tie.Need-tags-agree-requires
+unfolding eachOnce
+tags-agree-requires c κs = let s = placesOf (c .before .before .before .before .args .s) in
+    let e : eachOnce (body (s .sizes)) (queued s) ≡ true = sym (c .before .before .buckets-once .ensures) ∙ not-false _ (c .before .if1 .left) in
+    (c .before .before .before .before .pre .0, (c .before .before .before .before .pre .1, every-at _ e 1))
+
+numbers-fit-requires : tie.Need-numbers-fit-requires
+numbers-fit-requires c κs = search needs
+
+returns-2 : tie.Need-returns-2
+returns-2 c = let s = placesOf (c .before .before .before .before .before .before .args .s) in
+    let e : eachOnce (body (s .sizes)) (queued s) ≡ true = sym (c .before .before .before .before .buckets-once .ensures) ∙ not-false _ (c .before .before .before .if1 .left) in
+    rw (parts s (spareOnly (c .before .before .before .before .before .before .args .spare .now)), e, c .numbers-fit .ensures, c .before .tags-agree .ensures, c .before .before .queues-fit .ensures)
+
+pub places-fit-spec : {M : Type 1} → statement M
+places-fit-spec =
+    tie.close
+    (tie.spec
+    buckets-once-requires
+    returns
+    queues-fit-requires
+    tags-agree-requires
+    numbers-fit-requires
+    returns-2)
