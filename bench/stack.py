@@ -41,7 +41,7 @@ pub extern "C" fn {name}(
     disk: &mut [u8],
 ) -> usize {{
     let z = model::Sizes {{ s: z[0], p: z[1], c: z[2], b: z[3], r: z[4], w: z[5] }};
-    let begun = format::format(script::unformatted(z), z, allowance, flash, spare, disk);
+    let begun = format::format(state::State::unformatted(), z, allowance, flash, spare, disk);
     let o = {call};
     o.stores
 }}

@@ -14,7 +14,7 @@ ghost use Rattle.geometry.specs.Geometry.{Lent};
 ghost use Rattle.image.specs.Chip.{Chip, spareOnly};
 ghost use Rattle.meter.specs.Run.{running};
 ghost use Rattle.queue.specs.View.{entriesOf};
-ghost use Rattle.state.specs.View.{viewOf};
+ghost use Rattle.state.specs.View.{placesOf};
 ghost use Rattle.steps.specs.Turns.{reached, after};
 ghost use Rattle.arrival.specs.Arrives.{Appends, Starts};
 
@@ -22,7 +22,7 @@ ghost use Rattle.arrival.specs.Arrives.{Appends, Starts};
 pub fn fits(s: State, b: u16, n: usize, spare: &[u8]) -> bool
     requires { ⌜ Chip (s .sizes) (now spare) ⌝ }
     requires { ⌜ (cacheOf b (entriesOf (s .writes)) < s .sizes .c) × (n ≤ 65536) ⌝ }
-    ensures { λ r. ⌜ r ≡ fits (s .sizes) (spareOnly (now (spare .entry))) b (pagesFor (s .sizes) n) (viewOf s) ⌝ }
+    ensures { λ r. ⌜ r ≡ fits (s .sizes) (spareOnly (now (spare .entry))) b (pagesFor (s .sizes) n) (placesOf s) ⌝ }
 {
     let logs = s.writes.find(b);
     if !logs.held {
@@ -45,8 +45,8 @@ pub fn append_log(
     disk: &mut [u8],
 ) -> Turn
     requires { ⌜ Lent (s .sizes) (now flash) (now spare) (now disk) ⌝ }
-    requires { ⌜ Appends (viewOf s) b (length (now bytes)) (now spare) ⌝ }
-    ensures { λ r. ⌜ reached (now (flash .exit)) (now (spare .exit)) (now (disk .exit)) r ≡ after (s .sizes) (appendLog (s .sizes) b offset (now (bytes .entry))) (viewOf s) (running (now (flash .entry)) (now (spare .entry)) (now (disk .entry)) meter) ⌝ }
+    requires { ⌜ Appends (placesOf s) b (length (now bytes)) (now spare) ⌝ }
+    ensures { λ r. ⌜ reached (now (flash .exit)) (now (spare .exit)) (now (disk .exit)) r ≡ after (s .sizes) (appendLog (s .sizes) b offset (now (bytes .entry))) (placesOf s) (running (now (flash .entry)) (now (spare .entry)) (now (disk .entry)) meter) ⌝ }
     ensures { λ _. ⌜ Lent (s .sizes) (now (flash .exit)) (now (spare .exit)) (now (disk .exit)) ⌝ }
 {
     let z = s.sizes;
@@ -81,8 +81,8 @@ pub fn start_log(
     disk: &mut [u8],
 ) -> Turn
     requires { ⌜ Lent (s .sizes) (now flash) (now spare) (now disk) ⌝ }
-    requires { ⌜ Starts (viewOf s) (length (now bytes)) ⌝ }
-    ensures { λ r. ⌜ reached (now (flash .exit)) (now (spare .exit)) (now (disk .exit)) r ≡ after (s .sizes) (makeRoom (s .sizes) then startLog (s .sizes) b offset (now (bytes .entry))) (viewOf s) (running (now (flash .entry)) (now (spare .entry)) (now (disk .entry)) meter) ⌝ }
+    requires { ⌜ Starts (placesOf s) (length (now bytes)) ⌝ }
+    ensures { λ r. ⌜ reached (now (flash .exit)) (now (spare .exit)) (now (disk .exit)) r ≡ after (s .sizes) (makeRoom (s .sizes) then startLog (s .sizes) b offset (now (bytes .entry))) (placesOf s) (running (now (flash .entry)) (now (spare .entry)) (now (disk .entry)) meter) ⌝ }
     ensures { λ _. ⌜ Lent (s .sizes) (now (flash .exit)) (now (spare .exit)) (now (disk .exit)) ⌝ }
 {
     let z = s.sizes;

@@ -37,7 +37,7 @@ fn sizes(s: usize, b: usize) -> Sizes {
 }
 
 fn formatted(z: Sizes, flash: &mut [u8], spare: &mut [u8], disk: &mut [u8]) -> State {
-    let o = format::format(script::unformatted(z), z, PLENTY, flash, spare, disk);
+    let o = format::format(State::unformatted(), z, PLENTY, flash, spare, disk);
     o.state
 }
 

@@ -19,7 +19,7 @@ use Rattle.model.proofs.Limits.{limits-of}
 use Rattle.geometry.proofs.Passed.{lengths-hold, lent-passed}
 use Rattle.image.specs.Chip.{Chip, spareOnly}
 use Rattle.rules.proofs.SameSpare.{same-well-formed}
-use Rattle.state.proofs.Allocate.{Queued, queues-hold, bounded}
+use Rattle.state.proofs.Queued.{Queued, queues-hold, bounded}
 use Rattle.state.proofs.Below.{queues-below}
 use Rattle.steps.specs.Ready.{Orderly}
 use Rattle.checks.proofs.Failed.{none-fails}
@@ -51,9 +51,9 @@ pub record Open (s : State) (d : Device) : Type 0 where
   pub fits : stateFits s d ≡ true
 
 module _ (s : State) (d : Device) where
-  pub running-opens : firstFailed (runningTests s d) ≡ 0 → Open s d
+  passed-opens : firstFailed (runningTests s d) ≡ 0 → Open s d
   unfolding runningTests lentTests
-  running-opens h =
+  passed-opens h =
       let one = first-passed 0 _ _ h in
       let two = first-passed 1 _ _ (one .1) in
       let three = first-passed 2 _ _ (two .1) in
@@ -66,21 +66,26 @@ module _ (s : State) (d : Device) where
         fits = five .0;
       }
 
-  -- numbers 1 to 7
-  pub read-opens : (b off n : ℕ) → firstFailed (runningTests s d ++ placeTests (s .sizes) b off n) ≡ 0 → Open s d × Range (s .sizes) b off n
-  read-opens b off n h =
-      let place = placeTests (s .sizes) b off n in
-      let both = none-fails (runningTests s d) place (running-numbered s d) h in
-      (running-opens (both .0), place-passed (s .sizes) b off n [] (rw (append-nil place) (both .1)) .0)
+  -- of the state that the struct's places hold, which then is the one shown
+  module _ {w : State} (same : s ≡ w) where
+    pub running-opens : firstFailed (runningTests s d) ≡ 0 → Open w d
+    running-opens h = rw (← same) (passed-opens h)
 
-  -- numbers 1 to 8
-  pub write-opens : (b off n : ℕ) → firstFailed (runningTests s d ++ (placeTests (s .sizes) b off n ++ ((8, leb (s .next) lastEpoch) ∷ []))) ≡ 0
-      → Open s d × Range (s .sizes) b off n × (s .next ≤ lastEpoch)
-  write-opens b off n h =
-      let epochs : List Test = (8, leb (s .next) lastEpoch) ∷ [] in
-      let both = none-fails (runningTests s d) (placeTests (s .sizes) b off n ++ epochs) (running-numbered s d) h in
-      let place = place-passed (s .sizes) b off n epochs (both .1) in
-      (running-opens (both .0), place .0, leb-true (s .next) lastEpoch (first-passed 7 _ _ (place .1) .0))
+    -- numbers 1 to 7
+    pub read-opens : (b off n : ℕ) → firstFailed (runningTests s d ++ placeTests (s .sizes) b off n) ≡ 0 → Open w d × Range (w .sizes) b off n
+    read-opens b off n h =
+        let place = placeTests (s .sizes) b off n in
+        let both = none-fails (runningTests s d) place (running-numbered s d) h in
+        rw (← same) (passed-opens (both .0), place-passed (s .sizes) b off n [] (rw (append-nil place) (both .1)) .0)
+
+    -- numbers 1 to 8
+    pub write-opens : (b off n : ℕ) → firstFailed (runningTests s d ++ (placeTests (s .sizes) b off n ++ ((8, leb (s .next) lastEpoch) ∷ []))) ≡ 0
+        → Open w d × Range (w .sizes) b off n × (w .next ≤ lastEpoch)
+    write-opens b off n h =
+        let epochs : List Test = (8, leb (s .next) lastEpoch) ∷ [] in
+        let both = none-fails (runningTests s d) (placeTests (s .sizes) b off n ++ epochs) (running-numbered s d) h in
+        let place = place-passed (s .sizes) b off n epochs (both .1) in
+        rw (← same) (passed-opens (both .0), place .0, leb-true (s .next) lastEpoch (first-passed 7 _ _ (place .1) .0))
 
 -- ---- what the state's queues then are
 

@@ -10,7 +10,7 @@ ghost use Rattle.model.specs.Tests.{firstFailed};
 ghost use Rattle.model.specs.Calls.{lentTests, runningTests, rangeFits, placeTests};
 ghost use Rattle.model.proofs.Limits.{Limits};
 ghost use Rattle.geometry.specs.Geometry.{device};
-ghost use Rattle.state.specs.View.{viewOf};
+ghost use Rattle.state.specs.View.{placesOf, viewOf};
 
 // Numbers 1, 2 and 4, of recover.
 pub fn image_refusal(z: Sizes, flash: &[u8], spare: &[u8], disk: &[u8]) -> u8
@@ -26,6 +26,7 @@ pub fn image_refusal(z: Sizes, flash: &[u8], spare: &[u8], disk: &[u8]) -> u8
 // Numbers 1 to 5, of erase step and drain.
 pub fn running_refusal(s: State, flash: &[u8], spare: &[u8], disk: &[u8]) -> u8
     ensures { λ r. ⌜ r ≡ firstFailed (runningTests (viewOf s) (device (now (flash .entry)) (now (spare .entry)) (now (disk .entry)))) ⌝ }
+    ensures { λ r. ⌜ (r ≡ 0 → viewOf s ≡ placesOf s) ⌝ }
 {
     // to hand on `s.sizes` itself would keep a copy of the whole state
     let z = s.sizes;
@@ -65,6 +66,7 @@ pub fn read_refusal(
     disk: &[u8],
 ) -> u8
     ensures { λ r. ⌜ r ≡ firstFailed (runningTests (viewOf s) (device (now (flash .entry)) (now (spare .entry)) (now (disk .entry))) ++ placeTests (s .sizes) b offset length) ⌝ }
+    ensures { λ r. ⌜ (r ≡ 0 → viewOf s ≡ placesOf s) ⌝ }
 {
     let number = running_refusal(s, flash, spare, disk);
     if number != 0 {
@@ -91,6 +93,7 @@ pub fn write_refusal(
     disk: &[u8],
 ) -> u8
     ensures { λ r. ⌜ r ≡ firstFailed (runningTests (viewOf s) (device (now (flash .entry)) (now (spare .entry)) (now (disk .entry))) ++ (placeTests (s .sizes) b offset length ++ ((8, leb (s .next) lastEpoch) ∷ []))) ⌝ }
+    ensures { λ r. ⌜ (r ≡ 0 → viewOf s ≡ placesOf s) ⌝ }
 {
     let number = read_refusal(s, b, offset, length, flash, spare, disk);
     if number != 0 {

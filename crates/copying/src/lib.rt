@@ -10,7 +10,7 @@ ghost use lib.ListN.{length};
 ghost use Rattle.model.specs.Steps.{copy};
 ghost use Rattle.geometry.specs.Geometry.{Lent};
 ghost use Rattle.meter.specs.Run.{running, runAll};
-ghost use Rattle.state.specs.View.{viewOf};
+ghost use Rattle.state.specs.View.{placesOf};
 ghost use Rattle.steps.specs.Turns.{reached, after};
 ghost use Rattle.copying.specs.Fresh.{roomOf, Takes, erases, freshStores, Copies};
 
@@ -23,7 +23,7 @@ pub struct Room {
 
 pub fn room_of(s: State) -> Room
     requires { ⌜ s .next ≤ 4294967295 ⌝ }
-    ensures { λ r. ⌜ r ≡ roomOf (viewOf s) ⌝ }
+    ensures { λ r. ⌜ r ≡ roomOf (placesOf s) ⌝ }
 {
     let epoch = s.next as u32;
     if s.free.used() == 0 {
@@ -104,8 +104,8 @@ pub fn copy(
     disk: &mut [u8],
 ) -> Turn
     requires { ⌜ Lent (s .sizes) (now flash) (now spare) (now disk) ⌝ }
-    requires { ⌜ Copies (viewOf s) b (length (now bytes)) ⌝ }
-    ensures { λ r. ⌜ reached (now (flash .exit)) (now (spare .exit)) (now (disk .exit)) r ≡ after (s .sizes) (copy (s .sizes) kind b (now (bytes .entry))) (viewOf s) (running (now (flash .entry)) (now (spare .entry)) (now (disk .entry)) meter) ⌝ }
+    requires { ⌜ Copies (placesOf s) b (length (now bytes)) ⌝ }
+    ensures { λ r. ⌜ reached (now (flash .exit)) (now (spare .exit)) (now (disk .exit)) r ≡ after (s .sizes) (copy (s .sizes) kind b (now (bytes .entry))) (placesOf s) (running (now (flash .entry)) (now (spare .entry)) (now (disk .entry)) meter) ⌝ }
     ensures { λ _. ⌜ Lent (s .sizes) (now (flash .exit)) (now (spare .exit)) (now (disk .exit)) ⌝ }
 {
     let room = room_of(s);

@@ -13,7 +13,7 @@ ghost use Rattle.model.specs.Operations.{drainStores, drain};
 ghost use Rattle.model.specs.Calls.{drainCall, carryOut, call};
 ghost use Rattle.geometry.specs.Geometry.{device, Lent};
 ghost use Rattle.meter.specs.Run.{running, runAll};
-ghost use Rattle.state.specs.View.{viewOf};
+ghost use Rattle.state.specs.View.{placesOf, viewOf};
 ghost use Rattle.gather.specs.Sources.{Sources};
 ghost use Rattle.steps.specs.Turns.{reached, after};
 ghost use Rattle.outcome.specs.Handed.{handedBack, handed};
@@ -29,9 +29,9 @@ fn write_back(
     spare: &mut [u8],
     disk: &mut [u8],
 ) -> Meter
-    requires { ⌜ Sources (viewOf s) b (now flash) (now spare) (now disk) ⌝ }
+    requires { ⌜ Sources (placesOf s) b (now flash) (now spare) (now disk) ⌝ }
     requires { ⌜ length (now buffer) ≡ bucketSize (s .sizes) ⌝ }
-    ensures { λ r. ⌜ running (now (flash .exit)) (now (spare .exit)) (now (disk .exit)) r ≡ runAll (s .sizes) (drainStores (s .sizes) (device (now (flash .entry)) (now (spare .entry)) (now (disk .entry))) (viewOf s) b) (running (now (flash .entry)) (now (spare .entry)) (now (disk .entry)) meter) ⌝ }
+    ensures { λ r. ⌜ running (now (flash .exit)) (now (spare .exit)) (now (disk .exit)) r ≡ runAll (s .sizes) (drainStores (s .sizes) (device (now (flash .entry)) (now (spare .entry)) (now (disk .entry))) (placesOf s) b) (running (now (flash .entry)) (now (spare .entry)) (now (disk .entry)) meter) ⌝ }
     ensures { λ _. ⌜ Lent (s .sizes) (now (flash .exit)) (now (spare .exit)) (now (disk .exit)) ⌝ }
 {
     gather::merged_into(s, b, flash, spare, disk, buffer);
@@ -49,9 +49,9 @@ fn write_listed(
     disk: &mut [u8],
 ) -> Meter
     requires { ⌜ Lent (s .sizes) (now flash) (now spare) (now disk) ⌝ }
-    requires { ⌜ Listed (viewOf s) (now spare) (now backs) ⌝ }
+    requires { ⌜ Listed (placesOf s) (now spare) (now backs) ⌝ }
     requires { ⌜ length (now buffer) ≡ bucketSize (s .sizes) ⌝ }
-    ensures { λ r. ⌜ running (now (flash .exit)) (now (spare .exit)) (now (disk .exit)) r ≡ runAll (s .sizes) (drain (s .sizes) (viewOf s) (device (now (flash .entry)) (now (spare .entry)) (now (disk .entry))) .stores) (running (now (flash .entry)) (now (spare .entry)) (now (disk .entry)) meter) ⌝ }
+    ensures { λ r. ⌜ running (now (flash .exit)) (now (spare .exit)) (now (disk .exit)) r ≡ runAll (s .sizes) (drain (s .sizes) (placesOf s) (device (now (flash .entry)) (now (spare .entry)) (now (disk .entry))) .stores) (running (now (flash .entry)) (now (spare .entry)) (now (disk .entry)) meter) ⌝ }
     ensures { λ _. ⌜ Lent (s .sizes) (now (flash .exit)) (now (spare .exit)) (now (disk .exit)) ⌝ }
 {
     let end = s.sizes.b;
@@ -73,9 +73,9 @@ fn write_small(
     disk: &mut [u8],
 ) -> Meter
     requires { ⌜ Lent (s .sizes) (now flash) (now spare) (now disk) ⌝ }
-    requires { ⌜ Listed (viewOf s) (now spare) (now backs) ⌝ }
+    requires { ⌜ Listed (placesOf s) (now spare) (now backs) ⌝ }
     requires { ⌜ bucketSize (s .sizes) ≤ 2048 ⌝ }
-    ensures { λ r. ⌜ running (now (flash .exit)) (now (spare .exit)) (now (disk .exit)) r ≡ runAll (s .sizes) (drain (s .sizes) (viewOf s) (device (now (flash .entry)) (now (spare .entry)) (now (disk .entry))) .stores) (running (now (flash .entry)) (now (spare .entry)) (now (disk .entry)) meter) ⌝ }
+    ensures { λ r. ⌜ running (now (flash .exit)) (now (spare .exit)) (now (disk .exit)) r ≡ runAll (s .sizes) (drain (s .sizes) (placesOf s) (device (now (flash .entry)) (now (spare .entry)) (now (disk .entry))) .stores) (running (now (flash .entry)) (now (spare .entry)) (now (disk .entry)) meter) ⌝ }
     ensures { λ _. ⌜ Lent (s .sizes) (now (flash .exit)) (now (spare .exit)) (now (disk .exit)) ⌝ }
 {
     let mut buffer = [0u8; 2048];
@@ -93,8 +93,8 @@ fn write_large(
     disk: &mut [u8],
 ) -> Meter
     requires { ⌜ Lent (s .sizes) (now flash) (now spare) (now disk) ⌝ }
-    requires { ⌜ Listed (viewOf s) (now spare) (now backs) ⌝ }
-    ensures { λ r. ⌜ running (now (flash .exit)) (now (spare .exit)) (now (disk .exit)) r ≡ runAll (s .sizes) (drain (s .sizes) (viewOf s) (device (now (flash .entry)) (now (spare .entry)) (now (disk .entry))) .stores) (running (now (flash .entry)) (now (spare .entry)) (now (disk .entry)) meter) ⌝ }
+    requires { ⌜ Listed (placesOf s) (now spare) (now backs) ⌝ }
+    ensures { λ r. ⌜ running (now (flash .exit)) (now (spare .exit)) (now (disk .exit)) r ≡ runAll (s .sizes) (drain (s .sizes) (placesOf s) (device (now (flash .entry)) (now (spare .entry)) (now (disk .entry))) .stores) (running (now (flash .entry)) (now (spare .entry)) (now (disk .entry)) meter) ⌝ }
     ensures { λ _. ⌜ Lent (s .sizes) (now (flash .exit)) (now (spare .exit)) (now (disk .exit)) ⌝ }
 {
     let mut buffer = [0u8; 65536];
@@ -113,8 +113,8 @@ fn write_units(
     disk: &mut [u8],
 ) -> Meter
     requires { ⌜ Lent (s .sizes) (now flash) (now spare) (now disk) ⌝ }
-    requires { ⌜ Listed (viewOf s) (now spare) (now backs) ⌝ }
-    ensures { λ r. ⌜ running (now (flash .exit)) (now (spare .exit)) (now (disk .exit)) r ≡ runAll (s .sizes) (drain (s .sizes) (viewOf s) (device (now (flash .entry)) (now (spare .entry)) (now (disk .entry))) .stores) (running (now (flash .entry)) (now (spare .entry)) (now (disk .entry)) meter) ⌝ }
+    requires { ⌜ Listed (placesOf s) (now spare) (now backs) ⌝ }
+    ensures { λ r. ⌜ running (now (flash .exit)) (now (spare .exit)) (now (disk .exit)) r ≡ runAll (s .sizes) (drain (s .sizes) (placesOf s) (device (now (flash .entry)) (now (spare .entry)) (now (disk .entry))) .stores) (running (now (flash .entry)) (now (spare .entry)) (now (disk .entry)) meter) ⌝ }
     ensures { λ _. ⌜ Lent (s .sizes) (now (flash .exit)) (now (spare .exit)) (now (disk .exit)) ⌝ }
 {
     let z = s.sizes;
@@ -135,8 +135,8 @@ pub fn drain_queues(
     disk: &mut [u8],
 ) -> Turn
     requires { ⌜ Lent (s .sizes) (now flash) (now spare) (now disk) ⌝ }
-    requires { ⌜ Drains (viewOf s) (now spare) ⌝ }
-    ensures { λ r. ⌜ reached (now (flash .exit)) (now (spare .exit)) (now (disk .exit)) r ≡ after (s .sizes) (drain (s .sizes)) (viewOf s) (running (now (flash .entry)) (now (spare .entry)) (now (disk .entry)) meter) ⌝ }
+    requires { ⌜ Drains (placesOf s) (now spare) ⌝ }
+    ensures { λ r. ⌜ reached (now (flash .exit)) (now (spare .exit)) (now (disk .exit)) r ≡ after (s .sizes) (drain (s .sizes)) (placesOf s) (running (now (flash .entry)) (now (spare .entry)) (now (disk .entry)) meter) ⌝ }
     ensures { λ _. ⌜ Lent (s .sizes) (now (flash .exit)) (now (spare .exit)) (now (disk .exit)) ⌝ }
 {
     let work = unclean::drained(s, spare);
@@ -155,8 +155,8 @@ fn drain_whole(
     disk: &mut [u8],
 ) -> Outcome
     requires { ⌜ Lent (s .sizes) (now flash) (now spare) (now disk) ⌝ }
-    requires { ⌜ Drains (viewOf s) (now spare) ⌝ }
-    ensures { λ r. ⌜ handedBack (device (now (flash .exit)) (now (spare .exit)) (now (disk .exit))) [] r ≡ handed s (carryOut allowance drainCall (viewOf s) (device (now (flash .entry)) (now (spare .entry)) (now (disk .entry))) (drain (s .sizes) (viewOf s) (device (now (flash .entry)) (now (spare .entry)) (now (disk .entry))))) ⌝ }
+    requires { ⌜ Drains (placesOf s) (now spare) ⌝ }
+    ensures { λ r. ⌜ handedBack (device (now (flash .exit)) (now (spare .exit)) (now (disk .exit))) [] r ≡ handed s (carryOut allowance drainCall (placesOf s) (device (now (flash .entry)) (now (spare .entry)) (now (disk .entry))) (drain (s .sizes) (placesOf s) (device (now (flash .entry)) (now (spare .entry)) (now (disk .entry))))) ⌝ }
 {
     let whole = Meter::whole(allowance);
     let turn = drain_queues(whole, s, flash, spare, disk);

@@ -8,13 +8,13 @@ ghost use mathlib.Core.List.{[]};
 ghost use Rattle.model.specs.Steps.{eraseStep};
 ghost use Rattle.model.specs.Calls.{eraseCall, doneAnswer, carryOut, call};
 ghost use Rattle.geometry.specs.Geometry.{device, Lent};
-ghost use Rattle.state.specs.View.{viewOf};
+ghost use Rattle.state.specs.View.{placesOf, viewOf};
 ghost use Rattle.steps.specs.Ready.{Orderly};
 ghost use Rattle.outcome.specs.Handed.{handedBack, handed};
 
 // Idle where there is nothing to erase.
 fn full_answer(s: State) -> Answer
-    ensures { λ r. ⌜ r ≡ doneAnswer eraseCall (viewOf s) ⌝ }
+    ensures { λ r. ⌜ r ≡ doneAnswer eraseCall (placesOf s) ⌝ }
 {
     let n = s.gc.used();
     if n == 0 { Answer::Idle } else { Answer::Done }
@@ -28,8 +28,8 @@ fn erase_head(
     disk: &mut [u8],
 ) -> Outcome
     requires { ⌜ Lent (s .sizes) (now flash) (now spare) (now disk) ⌝ }
-    requires { ⌜ Orderly (viewOf s) ⌝ }
-    ensures { λ r. ⌜ handedBack (device (now (flash .exit)) (now (spare .exit)) (now (disk .exit))) [] r ≡ handed s (carryOut allowance eraseCall (viewOf s) (device (now (flash .entry)) (now (spare .entry)) (now (disk .entry))) (eraseStep (s .sizes) (viewOf s) (device (now (flash .entry)) (now (spare .entry)) (now (disk .entry))))) ⌝ }
+    requires { ⌜ Orderly (placesOf s) ⌝ }
+    ensures { λ r. ⌜ handedBack (device (now (flash .exit)) (now (spare .exit)) (now (disk .exit))) [] r ≡ handed s (carryOut allowance eraseCall (placesOf s) (device (now (flash .entry)) (now (spare .entry)) (now (disk .entry))) (eraseStep (s .sizes) (placesOf s) (device (now (flash .entry)) (now (spare .entry)) (now (disk .entry))))) ⌝ }
 {
     let full = full_answer(s);
     let whole = Meter::whole(allowance);

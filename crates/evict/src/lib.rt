@@ -12,7 +12,7 @@ ghost use Rattle.model.specs.Steps.{evict};
 ghost use Rattle.geometry.specs.Geometry.{Lent};
 ghost use Rattle.image.specs.Chip.{spareOnly};
 ghost use Rattle.meter.specs.Run.{running};
-ghost use Rattle.state.specs.View.{viewOf};
+ghost use Rattle.state.specs.View.{placesOf};
 ghost use Rattle.steps.specs.Turns.{reached, after};
 ghost use Rattle.evict.specs.PutAway.{Evicts, putAway};
 
@@ -27,8 +27,8 @@ fn put_away(
     disk: &mut [u8],
 ) -> Turn
     requires { ⌜ Lent (s .sizes) (now flash) (now spare) (now disk) ⌝ }
-    requires { ⌜ Evicts (viewOf s) b × (length (now bytes) ≡ bucketSize (s .sizes)) ⌝ }
-    ensures { λ r. ⌜ reached (now (flash .exit)) (now (spare .exit)) (now (disk .exit)) r ≡ after (s .sizes) (putAway (s .sizes) b (now (bytes .entry))) (viewOf s) (running (now (flash .entry)) (now (spare .entry)) (now (disk .entry)) meter) ⌝ }
+    requires { ⌜ Evicts (placesOf s) b × (length (now bytes) ≡ bucketSize (s .sizes)) ⌝ }
+    ensures { λ r. ⌜ reached (now (flash .exit)) (now (spare .exit)) (now (disk .exit)) r ≡ after (s .sizes) (putAway (s .sizes) b (now (bytes .entry))) (placesOf s) (running (now (flash .entry)) (now (spare .entry)) (now (disk .entry)) meter) ⌝ }
     ensures { λ _. ⌜ Lent (s .sizes) (now (flash .exit)) (now (spare .exit)) (now (disk .exit)) ⌝ }
 {
     if s.reads.holds(b) {
@@ -53,9 +53,9 @@ fn evict_by(
     disk: &mut [u8],
 ) -> Turn
     requires { ⌜ Lent (s .sizes) (now flash) (now spare) (now disk) ⌝ }
-    requires { ⌜ Evicts (viewOf s) b × (wellFormed (s .sizes) (spareOnly (now spare)) ≡ true) ⌝ }
+    requires { ⌜ Evicts (placesOf s) b × (wellFormed (s .sizes) (spareOnly (now spare)) ≡ true) ⌝ }
     requires { ⌜ length (now buffer) ≡ bucketSize (s .sizes) ⌝ }
-    ensures { λ r. ⌜ reached (now (flash .exit)) (now (spare .exit)) (now (disk .exit)) r ≡ after (s .sizes) (evict (s .sizes) b) (viewOf s) (running (now (flash .entry)) (now (spare .entry)) (now (disk .entry)) meter) ⌝ }
+    ensures { λ r. ⌜ reached (now (flash .exit)) (now (spare .exit)) (now (disk .exit)) r ≡ after (s .sizes) (evict (s .sizes) b) (placesOf s) (running (now (flash .entry)) (now (spare .entry)) (now (disk .entry)) meter) ⌝ }
     ensures { λ _. ⌜ Lent (s .sizes) (now (flash .exit)) (now (spare .exit)) (now (disk .exit)) ⌝ }
 {
     gather::merged_range(s, b, 0, flash, spare, disk, buffer);
@@ -74,9 +74,9 @@ fn evict_small(
     disk: &mut [u8],
 ) -> Turn
     requires { ⌜ Lent (s .sizes) (now flash) (now spare) (now disk) ⌝ }
-    requires { ⌜ Evicts (viewOf s) b × (wellFormed (s .sizes) (spareOnly (now spare)) ≡ true) ⌝ }
+    requires { ⌜ Evicts (placesOf s) b × (wellFormed (s .sizes) (spareOnly (now spare)) ≡ true) ⌝ }
     requires { ⌜ bucketSize (s .sizes) ≤ 2048 ⌝ }
-    ensures { λ r. ⌜ reached (now (flash .exit)) (now (spare .exit)) (now (disk .exit)) r ≡ after (s .sizes) (evict (s .sizes) b) (viewOf s) (running (now (flash .entry)) (now (spare .entry)) (now (disk .entry)) meter) ⌝ }
+    ensures { λ r. ⌜ reached (now (flash .exit)) (now (spare .exit)) (now (disk .exit)) r ≡ after (s .sizes) (evict (s .sizes) b) (placesOf s) (running (now (flash .entry)) (now (spare .entry)) (now (disk .entry)) meter) ⌝ }
     ensures { λ _. ⌜ Lent (s .sizes) (now (flash .exit)) (now (spare .exit)) (now (disk .exit)) ⌝ }
 {
     let mut buffer = [0u8; 2048];
@@ -94,8 +94,8 @@ fn evict_large(
     disk: &mut [u8],
 ) -> Turn
     requires { ⌜ Lent (s .sizes) (now flash) (now spare) (now disk) ⌝ }
-    requires { ⌜ Evicts (viewOf s) b × (wellFormed (s .sizes) (spareOnly (now spare)) ≡ true) ⌝ }
-    ensures { λ r. ⌜ reached (now (flash .exit)) (now (spare .exit)) (now (disk .exit)) r ≡ after (s .sizes) (evict (s .sizes) b) (viewOf s) (running (now (flash .entry)) (now (spare .entry)) (now (disk .entry)) meter) ⌝ }
+    requires { ⌜ Evicts (placesOf s) b × (wellFormed (s .sizes) (spareOnly (now spare)) ≡ true) ⌝ }
+    ensures { λ r. ⌜ reached (now (flash .exit)) (now (spare .exit)) (now (disk .exit)) r ≡ after (s .sizes) (evict (s .sizes) b) (placesOf s) (running (now (flash .entry)) (now (spare .entry)) (now (disk .entry)) meter) ⌝ }
     ensures { λ _. ⌜ Lent (s .sizes) (now (flash .exit)) (now (spare .exit)) (now (disk .exit)) ⌝ }
 {
     let mut buffer = [0u8; 65536];
@@ -114,8 +114,8 @@ pub fn evict(
     disk: &mut [u8],
 ) -> Turn
     requires { ⌜ Lent (s .sizes) (now flash) (now spare) (now disk) ⌝ }
-    requires { ⌜ Evicts (viewOf s) b × (wellFormed (s .sizes) (spareOnly (now spare)) ≡ true) ⌝ }
-    ensures { λ r. ⌜ reached (now (flash .exit)) (now (spare .exit)) (now (disk .exit)) r ≡ after (s .sizes) (evict (s .sizes) b) (viewOf s) (running (now (flash .entry)) (now (spare .entry)) (now (disk .entry)) meter) ⌝ }
+    requires { ⌜ Evicts (placesOf s) b × (wellFormed (s .sizes) (spareOnly (now spare)) ≡ true) ⌝ }
+    ensures { λ r. ⌜ reached (now (flash .exit)) (now (spare .exit)) (now (disk .exit)) r ≡ after (s .sizes) (evict (s .sizes) b) (placesOf s) (running (now (flash .entry)) (now (spare .entry)) (now (disk .entry)) meter) ⌝ }
     ensures { λ _. ⌜ Lent (s .sizes) (now (flash .exit)) (now (spare .exit)) (now (disk .exit)) ⌝ }
 {
     let z = s.sizes;

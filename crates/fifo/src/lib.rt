@@ -1,11 +1,13 @@
 // A queue of cache buckets, first in, first out, by value.
 ghost use mathlib.Core.Path.{_≡_};
+ghost use mathlib.Core.Bool.{true};
 ghost use mathlib.Core.List.{[], _∷_, _++_};
 ghost use Prim.Native.Nat.{_+_, _≤_, _<_};
 ghost use lib.ListN.{length, drop};
+ghost use lib.Dec.{leb};
 ghost use lib.Seq.{paste};
 ghost use Rattle.lists.specs.Lists.{below, head};
-ghost use Rattle.lists.specs.Arrays.{joined};
+ghost use Rattle.lists.specs.Arrays.{joined, padded};
 ghost use Rattle.fifo.specs.View.{listOf, fifoOf};
 
 pub struct Fifo {
@@ -37,7 +39,15 @@ impl Fifo {
         Fifo { items, len: count }
     }
 
-    // How many buckets stand in the queue, whatever its length field says.
+    // Whether the array has a place for each bucket that the length says.
+    pub fn has_places(self) -> bool
+        ensures { λ r. ⌜ r ≡ leb (self .len) 256 ⌝ }
+        ensures { λ r. ⌜ (r ≡ true → padded (self .len) 0 (listOf self) ≡ listOf self) ⌝ }
+    {
+        self.len <= 256
+    }
+
+    // How many buckets stand in the array's places.
     pub fn used(self) -> usize
         ensures { λ r. ⌜ (r ≡ length (listOf self)) × (r ≤ 256) ⌝ }
     {

@@ -1,3 +1,4 @@
 pub mod Blank
 pub mod Parts
+pub mod Places
 pub mod SameSpare

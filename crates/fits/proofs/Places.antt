@@ -15,7 +15,7 @@ use Rattle.fifo.specs.View.{listOf}
 use Rattle.queue.specs.View.{entriesOf, noEntry}
 use Rattle.state.specs.declared.State.{State}
 use Rattle.state.specs.View.{hasPlaces, viewOf}
-use Rattle.state.proofs.Allocate.{queues-hold}
+use Rattle.state.proofs.Queued.{queues-hold}
 
 fits-places : (s : State) (d : Device) → Limits (s .sizes) → stateFits (viewOf s) d ≡ true → hasPlaces s ≡ true
 unfolding hasPlaces viewOf every

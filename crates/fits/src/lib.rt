@@ -12,14 +12,28 @@ ghost use Rattle.model.specs.State.{caches, queued, isBelow, readAgrees, writeA
 ghost use Rattle.image.specs.Chip.{Chip, spareOnly};
 ghost use Rattle.fifo.specs.View.{listOf};
 ghost use Rattle.queue.specs.View.{entriesOf};
-ghost use Rattle.state.specs.View.{viewOf};
+ghost use Rattle.state.specs.View.{placesOf, viewOf};
 ghost use Rattle.fits.specs.Fits.{queuesFit, agrees, tagsAgree, numbersFit};
 
-// A bucket's spare fields are read only once the queues are known to hold buckets of the chip alone. Number 4 goes before.
+// A queue that is longer than its array is too long. All other tests look at what stands in the arrays' places. Number 4 goes before.
 pub fn state_fits(s: State, spare: &[u8]) -> bool
     requires { ⌜ Chip (s .sizes) (now spare) ⌝ }
     requires { ⌜ wellFormed (s .sizes) (spareOnly (now spare)) ≡ true ⌝ }
     ensures { λ r. ⌜ r ≡ stateFits (viewOf s) (spareOnly (now (spare .entry))) ⌝ }
+    ensures { λ r. ⌜ (r ≡ true → viewOf s ≡ placesOf s) ⌝ }
+{
+    if s.has_places() {
+        places_fit(s, spare)
+    } else {
+        false
+    }
+}
+
+// A bucket's spare fields are read only once the queues are known to hold buckets of the chip alone.
+fn places_fit(s: State, spare: &[u8]) -> bool
+    requires { ⌜ Chip (s .sizes) (now spare) ⌝ }
+    requires { ⌜ wellFormed (s .sizes) (spareOnly (now spare)) ≡ true ⌝ }
+    ensures { λ r. ⌜ r ≡ stateFits (placesOf s) (spareOnly (now (spare .entry))) ⌝ }
 {
     if !once::buckets_once(s) {
         return false;
@@ -31,7 +45,7 @@ pub fn state_fits(s: State, spare: &[u8]) -> bool
 }
 
 fn queues_fit(s: State) -> bool
-    ensures { λ r. ⌜ r ≡ queuesFit (viewOf s) ⌝ }
+    ensures { λ r. ⌜ r ≡ queuesFit (placesOf s) ⌝ }
 {
     let reads = s.reads.used();
     let writes = s.writes.used();
@@ -42,8 +56,8 @@ fn queues_fit(s: State) -> bool
 fn tags_agree(s: State, spare: &[u8]) -> bool
     requires { ⌜ Chip (s .sizes) (now spare) ⌝ }
     requires { ⌜ wellFormed (s .sizes) (spareOnly (now spare)) ≡ true ⌝ }
-    requires { ⌜ all (isBelow (body (s .sizes))) (queued (viewOf s)) ≡ true ⌝ }
-    ensures { λ r. ⌜ r ≡ tagsAgree (viewOf s) (spareOnly (now (spare .entry))) ⌝ }
+    requires { ⌜ all (isBelow (body (s .sizes))) (queued (placesOf s)) ≡ true ⌝ }
+    ensures { λ r. ⌜ r ≡ tagsAgree (placesOf s) (spareOnly (now (spare .entry))) ⌝ }
 {
     let z = s.sizes;
     let reads = queue_agrees(s.reads, false, z, spare);
@@ -55,7 +69,7 @@ fn tags_agree(s: State, spare: &[u8]) -> bool
 fn numbers_fit(s: State, spare: &[u8]) -> bool
     requires { ⌜ Chip (s .sizes) (now spare) ⌝ }
     requires { ⌜ wellFormed (s .sizes) (spareOnly (now spare)) ≡ true ⌝ }
-    ensures { λ r. ⌜ r ≡ numbersFit (viewOf s) (spareOnly (now (spare .entry))) ⌝ }
+    ensures { λ r. ⌜ r ≡ numbersFit (placesOf s) (spareOnly (now (spare .entry))) ⌝ }
 {
     let top = top_epoch(s.sizes, spare);
     (s.accepted <= 15) & (1 <= s.next) & (top < s.next) & (s.next <= 4294967296)

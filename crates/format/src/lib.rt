@@ -15,7 +15,7 @@ ghost use Rattle.model.specs.Calls.{formatCall, carryOut, call};
 ghost use Rattle.model.proofs.Limits.{Limits};
 ghost use Rattle.geometry.specs.Geometry.{device, Lent};
 ghost use Rattle.meter.specs.Run.{running, runAll};
-ghost use Rattle.state.specs.View.{viewOf};
+ghost use Rattle.state.specs.View.{placesOf, viewOf};
 ghost use Rattle.outcome.specs.Handed.{handedBack, handed};
 
 // Erases all buckets in rising order.
@@ -36,7 +36,7 @@ fn erase_all(meter: Meter, z: Sizes, flash: &mut [u8], spare: &mut [u8], disk: &
 
 fn formatted(z: Sizes) -> State
     requires { ⌜ Limits z ⌝ }
-    ensures { λ r. ⌜ viewOf r ≡ format z .state ⌝ }
+    ensures { λ r. ⌜ placesOf r ≡ format z .state ⌝ }
 {
     State {
         sizes: z,

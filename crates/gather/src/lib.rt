@@ -12,7 +12,7 @@ ghost use Rattle.model.specs.Steps.{baseBytes, merged};
 ghost use Rattle.model.proofs.Limits.{Limits};
 ghost use Rattle.geometry.specs.Geometry.{device};
 ghost use Rattle.queue.specs.View.{entriesOf};
-ghost use Rattle.state.specs.View.{viewOf};
+ghost use Rattle.state.specs.View.{placesOf};
 ghost use Rattle.gather.specs.Sources.{Sources};
 
 // Shows, from index `from` on, the piece number `index` of an area of pieces of `size` bytes.
@@ -32,7 +32,7 @@ fn base_range(s: State, b: u16, from: usize, flash: &[u8], disk: &[u8], window: 
     requires { ⌜ (length (now flash) ≡ flashSize (s .sizes)) × (length (now disk) ≡ diskSize (s .sizes)) ⌝ }
     requires { ⌜ (cacheOf b (entriesOf (s .reads)) < s .sizes .c) × (b < s .sizes .b) ⌝ }
     requires { ⌜ from + length (now window) ≤ bucketSize (s .sizes) ⌝ }
-    ensures { λ _. ⌜ ((spare : List ℕ) → now (window .exit) ≡ part (baseBytes (s .sizes) (viewOf s) (device (now (flash .entry)) spare (now (disk .entry))) b) from (length (now (window .entry)))) ⌝ }
+    ensures { λ _. ⌜ ((spare : List ℕ) → now (window .exit) ≡ part (baseBytes (s .sizes) (placesOf s) (device (now (flash .entry)) spare (now (disk .entry))) b) from (length (now (window .entry)))) ⌝ }
 {
     let z = s.sizes;
     let size = z.p * z.s;
@@ -55,9 +55,9 @@ pub fn merged_range(
     disk: &[u8],
     window: &mut [u8],
 )
-    requires { ⌜ Sources (viewOf s) b (now flash) (now spare) (now disk) ⌝ }
+    requires { ⌜ Sources (placesOf s) b (now flash) (now spare) (now disk) ⌝ }
     requires { ⌜ from + length (now window) ≤ bucketSize (s .sizes) ⌝ }
-    ensures { λ _. ⌜ now (window .exit) ≡ part (merged (s .sizes) (viewOf s) (device (now (flash .entry)) (now (spare .entry)) (now (disk .entry))) b) from (length (now (window .entry))) ⌝ }
+    ensures { λ _. ⌜ now (window .exit) ≡ part (merged (s .sizes) (placesOf s) (device (now (flash .entry)) (now (spare .entry)) (now (disk .entry))) b) from (length (now (window .entry))) ⌝ }
 {
     let z = s.sizes;
     let logs = s.writes.find(b);
@@ -70,9 +70,9 @@ pub fn merged_range(
 
 // All its bytes.
 pub fn merged_into(s: State, b: u16, flash: &[u8], spare: &[u8], disk: &[u8], buffer: &mut [u8])
-    requires { ⌜ Sources (viewOf s) b (now flash) (now spare) (now disk) ⌝ }
+    requires { ⌜ Sources (placesOf s) b (now flash) (now spare) (now disk) ⌝ }
     requires { ⌜ length (now buffer) ≡ bucketSize (s .sizes) ⌝ }
-    ensures { λ _. ⌜ now (buffer .exit) ≡ merged (s .sizes) (viewOf s) (device (now (flash .entry)) (now (spare .entry)) (now (disk .entry))) b ⌝ }
+    ensures { λ _. ⌜ now (buffer .exit) ≡ merged (s .sizes) (placesOf s) (device (now (flash .entry)) (now (spare .entry)) (now (disk .entry))) b ⌝ }
 {
     merged_range(s, b, 0, flash, spare, disk, buffer);
 }

@@ -1,8 +1,5 @@
 // The program's input, taken in pieces: bytes are gathered into lines, and each line is walked once it is whole.
 use drive::Recorder;
-use fifo::Fifo;
-use model::Sizes;
-use queue::Queue;
 use state::State;
 ghost use mathlib.Core.Path.{_≡_};
 ghost use mathlib.Core.List.{List, [], _++_};
@@ -104,28 +101,12 @@ pub fn start() -> Walk
     ensures { λ r. ⌜ ((line out input : List ℕ) → ahead r line (replicate 32768 0) (replicate 32768 0) (replicate 16384 0) out input ≡ output input) ⌝ }
     ensures { λ r. ⌜ Ready (r .recorder .formatted) (r .recorder .sizes) × (r .held ≡ 0) × (r .printed ≡ 0) ⌝ }
 {
-    let none = Sizes {
-        s: 0,
-        p: 0,
-        c: 0,
-        b: 0,
-        r: 0,
-        w: 0,
-    };
-    let state = State {
-        sizes: none,
-        running: false,
-        reads: Queue::empty(),
-        writes: Queue::empty(),
-        gc: Fifo::empty(),
-        free: Fifo::empty(),
-        accepted: 0,
-        next: 0,
-    };
+    let state = State::unformatted();
+    let sizes = state.sizes;
     let recorder = Recorder {
         state,
         formatted: false,
-        sizes: none,
+        sizes,
     };
     Walk {
         recorder,

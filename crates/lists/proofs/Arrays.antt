@@ -6,7 +6,7 @@ use mathlib.Core.List.{List, [], _∷_, _++_, map, append-nil}
 use native.Mathlib.Numerals.{add-one}
 use native.Mathlib.Nat.{zero-add, zero-sub, suc-sub-suc, sub-zero}
 use native.Mathlib.Omega.{arith}
-use lib.ListN.{length, take, drop, getD, set, replicate, length-append, length-take, length-map, drop-of-length-le}
+use lib.ListN.{length, take, drop, getD, set, replicate, length-append, length-take, length-map, length-replicate, drop-of-length-le}
 use lib.Seq.{take-suc, take-suc-set, take-all, take-at, take-nil, slice-cons, length-take-le, paste, paste-suc}
 use lib.Dec.{eqb, eqb·suc-zero}
 use Rattle.lists.specs.Lists.{if_then_else_, all, keep, empty}
@@ -70,6 +70,14 @@ module _ {A : Type 0} where
   pub padded-none : (c : ℕ) (d : A) → padded c d [] ≡ replicate c d
   unfolding padded
   padded-none c d = rw sub-zero
+
+  pub padded-whole : (c : ℕ) (d : A) (l : List A) → c ≤ length l → padded c d l ≡ l
+  unfolding padded
+  padded-whole c d l h = let e : c - length l ≡ 0 = omega arith in rw (e, append-nil l)
+
+  pub padded-length : (c : ℕ) (d : A) (l : List A) → length l ≤ c → length (padded c d l) ≡ c
+  unfolding padded
+  padded-length c d l h = rw (length-append l (replicate (c - length l) d), length-replicate (c - length l) d) (omega arith)
 
   pub padded-view : (c : ℕ) (d : A) (l : List A) → take (length l) (padded c d l) ≡ l
   unfolding padded

@@ -2,7 +2,7 @@
 use Prim.Native.Nat.{ℕ, zero, suc, _≤_}
 use mathlib.Core.Path.{_≡_, refl, sym}
 use mathlib.Core.Logic.{_⊎_, inl, inr}
-use mathlib.Core.Bool.{Bool, true, false, _&&_, _||_, true≢false}
+use mathlib.Core.Bool.{Bool, true, false, _&&_, _||_, and-assoc, true≢false, and-true as and-end}
 use mathlib.Core.List.{List, [], _∷_}
 use lib.ListN.{getD}
 use lib.Dec.{leb}
@@ -20,6 +20,14 @@ and-left false t h = h
 pub and-right : (s t : Bool) → s && t ≡ true → t ≡ true
 and-right true t h = h
 and-right false t h = absurd (true≢false (sym h))
+
+pub every-three : (a b c : Bool) → a && b && c ≡ every (a ∷ b ∷ c ∷ [])
+unfolding every
+every-three a b c = simp (and-assoc, and-end)
+
+pub every-four : (a b c d : Bool) → a && b && c && d ≡ every (a ∷ b ∷ c ∷ d ∷ [])
+unfolding every
+every-four a b c d = simp (and-assoc, and-end)
 
 pub and-true : {s t : Bool} → s ≡ true → t ≡ true → s && t ≡ true
 and-true h k = rw (h, k)

@@ -22,6 +22,10 @@ pub record State : Type 0 where
   pub accepted : ℕ
   pub next : ℕ
 
+-- a state that was never formatted: no sizes, no bucket in a queue, not running
+abbrev pub unformatted : State
+unformatted = record { sizes = record { s = 0; p = 0; c = 0; b = 0; r = 0; w = 0 }; running = false; reads = []; writes = []; gc = []; free = []; accepted = 0; next = 0 }
+
 -- the same state, not running
 unfoldable pub stopped : State → State
 stopped s = record { sizes = s .sizes; running = false; reads = s .reads; writes = s .writes; gc = s .gc; free = s .free; accepted = s .accepted; next = s .next }

@@ -11,13 +11,13 @@ ghost use Rattle.model.specs.Sizes.{body};
 ghost use Rattle.model.specs.State.{caches, queued, eachOnce};
 ghost use Rattle.fifo.specs.View.{listOf};
 ghost use Rattle.queue.specs.View.{entriesOf};
-ghost use Rattle.state.specs.View.{viewOf};
+ghost use Rattle.state.specs.View.{placesOf};
 ghost use Rattle.once.specs.Tally.{Few, Tallied};
 
 // So many buckets as there are, each of them once: then there is no other.
 pub fn buckets_once(s: State) -> bool
     requires { ⌜ body (s .sizes) ≤ 256 ⌝ }
-    ensures { λ r. ⌜ r ≡ eachOnce (body (s .sizes)) (queued (viewOf s)) ⌝ }
+    ensures { λ r. ⌜ r ≡ eachOnce (body (s .sizes)) (queued (placesOf s)) ⌝ }
 {
     let end = geometry::body(s.sizes);
     let total = s.reads.used() + s.writes.used() + s.gc.used() + s.free.used();

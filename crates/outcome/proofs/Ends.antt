@@ -35,61 +35,63 @@ module _ (s : Struct) (new : State) where
   given-new drainCall v = refl
   given-new (recoverCall z) v = refl
 
-module _ (n : ℕ) (k : Call) (s : Struct) (d : Device) where
+-- a call of the struct s, which shows the state v
+module _ (n : ℕ) (k : Call) (s : Struct) (v : State) (d : Device) where
   -- what the allowance allowed, from what is left of it
-  pub left-within : (p : Plan) {r : Run} → r ≡ runAll (sizesOf k (viewOf s)) (p .stores) (fresh d n) → r .meter .left ≤ n
-  left-within p e = rw e (run-left (sizesOf k (viewOf s)) (p .stores) d n)
+  pub left-within : (p : Plan) {r : Run} → r ≡ runAll (sizesOf k v) (p .stores) (fresh d n) → r .meter .left ≤ n
+  left-within p e = rw e (run-left (sizesOf k v) (p .stores) d n)
 
   run-handed : (p : Plan) (r : Run)
-      → handedBack (r .device) (if r .meter .cut then lentBuffer k else readBuffer k (viewOf s) d) (finished (r .meter) n (doneAnswer k (viewOf s)) s (p .state))
-      ≡ handed s (ended n k (viewOf s) d p r)
+      → handedBack (r .device) (if r .meter .cut then lentBuffer k else readBuffer k v d) (finished (r .meter) n (doneAnswer k v) s (p .state))
+      ≡ handed s (ended n k v d p r)
   unfolding finished handed ended givenBack
   run-handed p r = go (r .meter .cut) refl
     where
       go : (t : Bool) → r .meter .cut ≡ t
-          → handedBack (r .device) (if r .meter .cut then lentBuffer k else readBuffer k (viewOf s) d) (finished (r .meter) n (doneAnswer k (viewOf s)) s (p .state))
-          ≡ handed s (ended n k (viewOf s) d p r)
+          → handedBack (r .device) (if r .meter .cut then lentBuffer k else readBuffer k v d) (finished (r .meter) n (doneAnswer k v) s (p .state))
+          ≡ handed s (ended n k v d p r)
       go true h = rw h
-      go false h = rw (h, given-new s (p .state) k (viewOf s))
+      go false h = rw (h, given-new s (p .state) k v)
 
   -- An entry that asked for all stores of a plan, from a whole allowance, hands back what the definitions say.
-  pub handed-run : (p : Plan) {r : Run} → r ≡ runAll (sizesOf k (viewOf s)) (p .stores) (fresh d n)
-      → handedBack (r .device) (if r .meter .cut then lentBuffer k else readBuffer k (viewOf s) d) (finished (r .meter) n (doneAnswer k (viewOf s)) s (p .state))
-      ≡ handed s (carryOut n k (viewOf s) d p)
-  handed-run p {r} e = run-handed p r ∙ ap (λ (q : Run). handed s (ended n k (viewOf s) d p q)) e ∙ ap (handed s) (run-ended n k (viewOf s) d p)
+  pub handed-run : (p : Plan) {r : Run} → r ≡ runAll (sizesOf k v) (p .stores) (fresh d n)
+      → handedBack (r .device) (if r .meter .cut then lentBuffer k else readBuffer k v d) (finished (r .meter) n (doneAnswer k v) s (p .state))
+      ≡ handed s (carryOut n k v d p)
+  handed-run p {r} e = run-handed p r ∙ ap (λ (q : Run). handed s (ended n k v d p q)) e ∙ ap (handed s) (run-ended n k v d p)
 
   -- the same for a call that is lent no read buffer
-  pub handed-quiet : (p : Plan) {r : Run} → lentBuffer k ≡ [] → readBuffer k (viewOf s) d ≡ [] → r ≡ runAll (sizesOf k (viewOf s)) (p .stores) (fresh d n)
-      → handedBack (r .device) [] (finished (r .meter) n (doneAnswer k (viewOf s)) s (p .state)) ≡ handed s (carryOut n k (viewOf s) d p)
-  handed-quiet p {r} lent read e = ap (λ (b : List ℕ). handedBack (r .device) b (finished (r .meter) n (doneAnswer k (viewOf s)) s (p .state))) (sym (same (r .meter .cut))) ∙ handed-run p e
+  pub handed-quiet : (p : Plan) {r : Run} → lentBuffer k ≡ [] → readBuffer k v d ≡ [] → r ≡ runAll (sizesOf k v) (p .stores) (fresh d n)
+      → handedBack (r .device) [] (finished (r .meter) n (doneAnswer k v) s (p .state)) ≡ handed s (carryOut n k v d p)
+  handed-quiet p {r} lent read e = ap (λ (b : List ℕ). handedBack (r .device) b (finished (r .meter) n (doneAnswer k v) s (p .state))) (sym (same (r .meter .cut))) ∙ handed-run p e
     where
-      same : (t : Bool) → (if t then lentBuffer k else readBuffer k (viewOf s) d) ≡ []
+      same : (t : Bool) → (if t then lentBuffer k else readBuffer k v d) ≡ []
       same true = lent
       same false = read
 
   -- an entry that carried out a step, from a whole allowance
-  module _ (step : Step) {p : Progress} (e : p ≡ after (sizesOf k (viewOf s)) step (viewOf s) (fresh d n)) where
+  module _ (step : Step) {p : Progress} (e : p ≡ after (sizesOf k v) step v (fresh d n)) where
     pub step-left : p .run .meter .left ≤ n
     unfolding after
-    step-left = rw e (run-left (sizesOf k (viewOf s)) (step (viewOf s) d .stores) d n)
+    step-left = rw e (run-left (sizesOf k v) (step v d .stores) d n)
 
-    pub step-handed : lentBuffer k ≡ [] → readBuffer k (viewOf s) d ≡ []
-        → handedBack (p .run .device) [] (finished (p .run .meter) n (doneAnswer k (viewOf s)) s (p .state)) ≡ handed s (carryOut n k (viewOf s) d (step (viewOf s) d))
+    pub step-handed : lentBuffer k ≡ [] → readBuffer k v d ≡ []
+        → handedBack (p .run .device) [] (finished (p .run .meter) n (doneAnswer k v) s (p .state)) ≡ handed s (carryOut n k v d (step v d))
     unfolding after
     step-handed lent read =
-        ap (λ (q : Progress). handedBack (q .run .device) [] (finished (q .run .meter) n (doneAnswer k (viewOf s)) s (q .state))) e
-        ∙ handed-quiet (step (viewOf s) d) lent read refl
+        ap (λ (q : Progress). handedBack (q .run .device) [] (finished (q .run .meter) n (doneAnswer k v) s (q .state))) e
+        ∙ handed-quiet (step v d) lent read refl
 
-  -- a call that passes all its tests
-  pub handed-taken : refusal k (viewOf s) d ≡ 0 → handed s (carryOut n k (viewOf s) d (planOf k (viewOf s) d)) ≡ handed s (call n k (viewOf s) d)
+  -- a call that passes all its tests, carried out on the state w that then is the one shown
+  pub handed-taken : {w : State} → v ≡ w → refusal k v d ≡ 0 → handed s (carryOut n k w d (planOf k w d)) ≡ handed s (call n k v d)
   unfolding call
-  handed-taken h = rw h
+  handed-taken same h = rw (← same, h)
 
   -- a call that does not
-  pub handed-refused : (r : ℕ) → refusal k (viewOf s) d ≡ r → (r ≡ 0 → ⊥) → handedBack d (lentBuffer k) (turned r s) ≡ handed s (call n k (viewOf s) d)
+  pub handed-refused : (r : ℕ) → refusal k v d ≡ r → (r ≡ 0 → ⊥) → handedBack d (lentBuffer k) (turned r s) ≡ handed s (call n k v d)
   unfolding call turnedDown handed givenBack
   handed-refused r h ne = rw (h, ne-eqb r 0 ne)
 
+module _ (n : ℕ) (k : Call) (s : Struct) (d : Device) where
   -- The struct handed back is one of the outcome's state.
   pub handed-view : viewOf (handed s (call n k (viewOf s) d) .outcome .state) ≡ call n k (viewOf s) d .state
   unfolding call carryOut turnedDown handed givenBack

@@ -4,7 +4,7 @@ use model::Answer;
 use state::State;
 ghost use mathlib.Core.Path.{_≡_};
 ghost use Prim.Native.Nat.{_≤_};
-ghost use Rattle.state.specs.View.{viewOf};
+ghost use Rattle.state.specs.View.{placesOf};
 ghost use Rattle.outcome.specs.Handed.{finished, turned};
 
 pub struct Outcome {
@@ -16,7 +16,7 @@ pub struct Outcome {
 // Once all stores were asked for: `full` with the new state, or Cut with the old one, not running.
 pub fn finish(m: Meter, allowance: usize, full: Answer, old: State, new: State) -> Outcome
     requires { ⌜ m .left ≤ allowance ⌝ }
-    ensures { λ r. ⌜ r ≡ finished m allowance full old (viewOf new) ⌝ }
+    ensures { λ r. ⌜ r ≡ finished m allowance full old (placesOf new) ⌝ }
 {
     let stores = allowance - m.left;
     if m.cut {

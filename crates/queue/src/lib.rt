@@ -1,12 +1,14 @@
 // A queue of back-end buckets with their cache buckets, by value.
 use model::Entry;
 ghost use mathlib.Core.Path.{_≡_};
+ghost use mathlib.Core.Bool.{true};
 ghost use mathlib.Core.List.{[], _∷_, map};
 ghost use Prim.Native.Nat.{_+_, _≤_};
 ghost use lib.ListN.{length, take, drop, getD};
+ghost use lib.Dec.{leb};
 ghost use lib.Seq.{paste};
 ghost use Rattle.lists.specs.Lists.{distinct};
-ghost use Rattle.lists.specs.Arrays.{joined};
+ghost use Rattle.lists.specs.Arrays.{joined, padded};
 ghost use Rattle.fifo.specs.View.{listOf};
 ghost use Rattle.model.specs.State.{entry, holds, cacheOf, without, caches, backs};
 ghost use Rattle.model.specs.Operations.{halved, prioritised};
@@ -45,7 +47,15 @@ impl Queue {
         }
     }
 
-    // How many entries stand in the queue, whatever its length field says.
+    // Whether the array has a place for each entry that the length says.
+    pub fn has_places(self) -> bool
+        ensures { λ r. ⌜ r ≡ leb (self .len) 64 ⌝ }
+        ensures { λ r. ⌜ (r ≡ true → padded (self .len) noEntry (entriesOf self) ≡ entriesOf self) ⌝ }
+    {
+        self.len <= 64
+    }
+
+    // How many entries stand in the array's places.
     pub fn used(self) -> usize
         ensures { λ r. ⌜ (r ≡ length (entriesOf self)) × (r ≤ 64) ⌝ }
     {
@@ -156,29 +166,27 @@ impl Queue {
     }
 
     // The priority p at b.
-    pub fn prioritise(self, b: u16, p: u8) -> Self
+    pub fn prioritise(mut self, b: u16, p: u8) -> Self
         ensures { λ r. ⌜ entriesOf r ≡ map (prioritised b p) (entriesOf self) ⌝ }
     {
         let n = self.used();
         let items = self.items;
         let next = with_priority(items, n, b, p);
-        Queue {
-            items: next,
-            len: n,
-        }
+        self.items = next;
+        self.len = n;
+        self
     }
 
     // All priorities halved.
-    pub fn halve(self) -> Self
+    pub fn halve(mut self) -> Self
         ensures { λ r. ⌜ entriesOf r ≡ map halved (entriesOf self) ⌝ }
     {
         let n = self.used();
         let items = self.items;
         let next = halves(items, n);
-        Queue {
-            items: next,
-            len: n,
-        }
+        self.items = next;
+        self.len = n;
+        self
     }
 
     // The cache buckets in the queue's order.

@@ -18,7 +18,7 @@ use Rattle.model.specs.declared.Answer.the-variants.{Done}
 use Rattle.model.specs.Calls.{readCall, sizesOf, doneAnswer, lentBuffer, readBuffer, carryOut}
 use Rattle.meter.specs.Run.{fresh}
 use Rattle.state.specs.declared.State.{State as Struct}
-use Rattle.state.specs.View.{viewOf}
+use Rattle.state.specs.View.{placesOf}
 use Rattle.steps.specs.Turns.{Progress, after}
 use Rattle.outcome.specs.Handed.{handedBack, handed, finished}
 use Rattle.outcome.proofs.Ends.{handed-run}
@@ -60,10 +60,10 @@ module _ (z : Sizes) (d : Device) (b : ℕ) (s : State) where
       at bytes false false w h = refl
 
 -- from the run that asked for all stores of a step
-module _ (n : ℕ) (s : Struct) (d : Device) (step : Step) {q : Progress} (e : q ≡ after (s .sizes) step (viewOf s) (fresh d n)) where
+module _ (n : ℕ) (s : Struct) (d : Device) (step : Step) {q : Progress} (e : q ≡ after (s .sizes) step (placesOf s) (fresh d n)) where
   -- what a read hands back, whose buffer shows the bytes unless it was cut
-  pub handed-read : (b off : ℕ) (buffer : List ℕ) {shown : List ℕ} → shown ≡ (if q .run .meter .cut then buffer else part (merged (s .sizes) (viewOf s) d b) off (length buffer))
-      → handedBack (q .run .device) shown (finished (q .run .meter) n Done s (q .state)) ≡ handed s (carryOut n (readCall b off buffer) (viewOf s) d (step (viewOf s) d))
+  pub handed-read : (b off : ℕ) (buffer : List ℕ) {shown : List ℕ} → shown ≡ (if q .run .meter .cut then buffer else part (merged (s .sizes) (placesOf s) d b) off (length buffer))
+      → handedBack (q .run .device) shown (finished (q .run .meter) n Done s (q .state)) ≡ handed s (carryOut n (readCall b off buffer) (placesOf s) d (step (placesOf s) d))
   unfolding after sizesOf doneAnswer lentBuffer readBuffer
   handed-read b off buffer h =
-      rw (h, ap (λ (t : Progress). t .state) e) (handed-run n (readCall b off buffer) s d (step (viewOf s) d) {r = q .run} (ap (λ (t : Progress). t .run) e))
+      rw (h, ap (λ (t : Progress). t .state) e) (handed-run n (readCall b off buffer) s (placesOf s) d (step (placesOf s) d) {r = q .run} (ap (λ (t : Progress). t .run) e))

@@ -18,7 +18,7 @@ ghost use Rattle.model.specs.Calls.{readCall, carryOut, call};
 ghost use Rattle.geometry.specs.Geometry.{device, Lent};
 ghost use Rattle.meter.specs.Run.{running};
 ghost use Rattle.queue.specs.View.{entriesOf};
-ghost use Rattle.state.specs.View.{viewOf};
+ghost use Rattle.state.specs.View.{placesOf, viewOf};
 ghost use Rattle.gather.specs.Sources.{Sources};
 ghost use Rattle.steps.specs.Turns.{reached, after};
 ghost use Rattle.outcome.specs.Handed.{handedBack, handed};
@@ -37,9 +37,9 @@ fn answer(
     spare: &[u8],
     disk: &[u8],
 ) -> Outcome
-    requires { ⌜ Sources (viewOf s) b (now flash) (now spare) (now disk) ⌝ }
+    requires { ⌜ Sources (placesOf s) b (now flash) (now spare) (now disk) ⌝ }
     requires { ⌜ offset + length (now buffer) ≤ bucketSize (s .sizes) ⌝ }
-    ensures { λ r. ⌜ handedBack (device (now (flash .entry)) (now (spare .entry)) (now (disk .entry))) (now (buffer .exit)) r ≡ handed s (carryOut allowance (readCall b offset (now (buffer .entry))) (viewOf s) (device (now (flash .entry)) (now (spare .entry)) (now (disk .entry))) (nothing (viewOf new) (device (now (flash .entry)) (now (spare .entry)) (now (disk .entry))))) ⌝ }
+    ensures { λ r. ⌜ handedBack (device (now (flash .entry)) (now (spare .entry)) (now (disk .entry))) (now (buffer .exit)) r ≡ handed s (carryOut allowance (readCall b offset (now (buffer .entry))) (placesOf s) (device (now (flash .entry)) (now (spare .entry)) (now (disk .entry))) (nothing (placesOf new) (device (now (flash .entry)) (now (spare .entry)) (now (disk .entry))))) ⌝ }
 {
     gather::merged_range(s, b, offset, flash, spare, disk, buffer);
     let whole = Meter::whole(allowance);
@@ -63,8 +63,8 @@ fn room_for(
     disk: &mut [u8],
 ) -> Turn
     requires { ⌜ Lent (s .sizes) (now flash) (now spare) (now disk) ⌝ }
-    requires { ⌜ Drops (viewOf s) ⌝ }
-    ensures { λ r. ⌜ reached (now (flash .exit)) (now (spare .exit)) (now (disk .exit)) r ≡ after (s .sizes) (roomFor (s .sizes) held) (viewOf s) (running (now (flash .entry)) (now (spare .entry)) (now (disk .entry)) meter) ⌝ }
+    requires { ⌜ Drops (placesOf s) ⌝ }
+    ensures { λ r. ⌜ reached (now (flash .exit)) (now (spare .exit)) (now (disk .exit)) r ≡ after (s .sizes) (roomFor (s .sizes) held) (placesOf s) (running (now (flash .entry)) (now (spare .entry)) (now (disk .entry)) meter) ⌝ }
     ensures { λ _. ⌜ Lent (s .sizes) (now (flash .exit)) (now (spare .exit)) (now (disk .exit)) ⌝ }
 {
     if held {
@@ -84,8 +84,8 @@ fn make_copy(
     disk: &mut [u8],
 ) -> Turn
     requires { ⌜ Lent (s .sizes) (now flash) (now spare) (now disk) ⌝ }
-    requires { ⌜ Drops (viewOf s) × (s .next ≤ 4294967294) × (length (now bytes) ≡ bucketSize (s .sizes)) ⌝ }
-    ensures { λ r. ⌜ reached (now (flash .exit)) (now (spare .exit)) (now (disk .exit)) r ≡ after (s .sizes) (copyOf (s .sizes) b (now (bytes .entry))) (viewOf s) (running (now (flash .entry)) (now (spare .entry)) (now (disk .entry)) meter) ⌝ }
+    requires { ⌜ Drops (placesOf s) × (s .next ≤ 4294967294) × (length (now bytes) ≡ bucketSize (s .sizes)) ⌝ }
+    ensures { λ r. ⌜ reached (now (flash .exit)) (now (spare .exit)) (now (disk .exit)) r ≡ after (s .sizes) (copyOf (s .sizes) b (now (bytes .entry))) (placesOf s) (running (now (flash .entry)) (now (spare .entry)) (now (disk .entry)) meter) ⌝ }
     ensures { λ _. ⌜ Lent (s .sizes) (now (flash .exit)) (now (spare .exit)) (now (disk .exit)) ⌝ }
 {
     let held = s.reads.holds(b);
@@ -121,9 +121,9 @@ fn copy_by(
     disk: &mut [u8],
 ) -> Outcome
     requires { ⌜ Lent (s .sizes) (now flash) (now spare) (now disk) ⌝ }
-    requires { ⌜ Reads (viewOf s) b offset (length (now buffer)) (now spare) ⌝ }
+    requires { ⌜ Reads (placesOf s) b offset (length (now buffer)) (now spare) ⌝ }
     requires { ⌜ (s .next ≤ 4294967294) × (length (now bytes) ≡ bucketSize (s .sizes)) ⌝ }
-    ensures { λ r. ⌜ handedBack (device (now (flash .exit)) (now (spare .exit)) (now (disk .exit))) (now (buffer .exit)) r ≡ handed s (carryOut allowance (readCall b offset (now (buffer .entry))) (viewOf s) (device (now (flash .entry)) (now (spare .entry)) (now (disk .entry))) (copyOf (s .sizes) b (merged (s .sizes) (viewOf s) (device (now (flash .entry)) (now (spare .entry)) (now (disk .entry))) b) (viewOf s) (device (now (flash .entry)) (now (spare .entry)) (now (disk .entry))))) ⌝ }
+    ensures { λ r. ⌜ handedBack (device (now (flash .exit)) (now (spare .exit)) (now (disk .exit))) (now (buffer .exit)) r ≡ handed s (carryOut allowance (readCall b offset (now (buffer .entry))) (placesOf s) (device (now (flash .entry)) (now (spare .entry)) (now (disk .entry))) (copyOf (s .sizes) b (merged (s .sizes) (placesOf s) (device (now (flash .entry)) (now (spare .entry)) (now (disk .entry))) b) (placesOf s) (device (now (flash .entry)) (now (spare .entry)) (now (disk .entry))))) ⌝ }
 {
     gather::merged_range(s, b, 0, flash, spare, disk, bytes);
     let whole = Meter::whole(allowance);
@@ -145,10 +145,10 @@ fn copy_small(
     disk: &mut [u8],
 ) -> Outcome
     requires { ⌜ Lent (s .sizes) (now flash) (now spare) (now disk) ⌝ }
-    requires { ⌜ Reads (viewOf s) b offset (length (now buffer)) (now spare) ⌝ }
+    requires { ⌜ Reads (placesOf s) b offset (length (now buffer)) (now spare) ⌝ }
     requires { ⌜ s .next ≤ 4294967294 ⌝ }
     requires { ⌜ bucketSize (s .sizes) ≤ 2048 ⌝ }
-    ensures { λ r. ⌜ handedBack (device (now (flash .exit)) (now (spare .exit)) (now (disk .exit))) (now (buffer .exit)) r ≡ handed s (carryOut allowance (readCall b offset (now (buffer .entry))) (viewOf s) (device (now (flash .entry)) (now (spare .entry)) (now (disk .entry))) (copyOf (s .sizes) b (merged (s .sizes) (viewOf s) (device (now (flash .entry)) (now (spare .entry)) (now (disk .entry))) b) (viewOf s) (device (now (flash .entry)) (now (spare .entry)) (now (disk .entry))))) ⌝ }
+    ensures { λ r. ⌜ handedBack (device (now (flash .exit)) (now (spare .exit)) (now (disk .exit))) (now (buffer .exit)) r ≡ handed s (carryOut allowance (readCall b offset (now (buffer .entry))) (placesOf s) (device (now (flash .entry)) (now (spare .entry)) (now (disk .entry))) (copyOf (s .sizes) b (merged (s .sizes) (placesOf s) (device (now (flash .entry)) (now (spare .entry)) (now (disk .entry))) b) (placesOf s) (device (now (flash .entry)) (now (spare .entry)) (now (disk .entry))))) ⌝ }
 {
     let mut bytes = [0u8; 2048];
     let z = s.sizes;
@@ -177,9 +177,9 @@ fn copy_large(
     disk: &mut [u8],
 ) -> Outcome
     requires { ⌜ Lent (s .sizes) (now flash) (now spare) (now disk) ⌝ }
-    requires { ⌜ Reads (viewOf s) b offset (length (now buffer)) (now spare) ⌝ }
+    requires { ⌜ Reads (placesOf s) b offset (length (now buffer)) (now spare) ⌝ }
     requires { ⌜ s .next ≤ 4294967294 ⌝ }
-    ensures { λ r. ⌜ handedBack (device (now (flash .exit)) (now (spare .exit)) (now (disk .exit))) (now (buffer .exit)) r ≡ handed s (carryOut allowance (readCall b offset (now (buffer .entry))) (viewOf s) (device (now (flash .entry)) (now (spare .entry)) (now (disk .entry))) (copyOf (s .sizes) b (merged (s .sizes) (viewOf s) (device (now (flash .entry)) (now (spare .entry)) (now (disk .entry))) b) (viewOf s) (device (now (flash .entry)) (now (spare .entry)) (now (disk .entry))))) ⌝ }
+    ensures { λ r. ⌜ handedBack (device (now (flash .exit)) (now (spare .exit)) (now (disk .exit))) (now (buffer .exit)) r ≡ handed s (carryOut allowance (readCall b offset (now (buffer .entry))) (placesOf s) (device (now (flash .entry)) (now (spare .entry)) (now (disk .entry))) (copyOf (s .sizes) b (merged (s .sizes) (placesOf s) (device (now (flash .entry)) (now (spare .entry)) (now (disk .entry))) b) (placesOf s) (device (now (flash .entry)) (now (spare .entry)) (now (disk .entry))))) ⌝ }
 {
     let mut bytes = [0u8; 65536];
     let z = s.sizes;
@@ -209,9 +209,9 @@ fn copy_read(
     disk: &mut [u8],
 ) -> Outcome
     requires { ⌜ Lent (s .sizes) (now flash) (now spare) (now disk) ⌝ }
-    requires { ⌜ Reads (viewOf s) b offset (length (now buffer)) (now spare) ⌝ }
+    requires { ⌜ Reads (placesOf s) b offset (length (now buffer)) (now spare) ⌝ }
     requires { ⌜ s .next ≤ 4294967294 ⌝ }
-    ensures { λ r. ⌜ handedBack (device (now (flash .exit)) (now (spare .exit)) (now (disk .exit))) (now (buffer .exit)) r ≡ handed s (carryOut allowance (readCall b offset (now (buffer .entry))) (viewOf s) (device (now (flash .entry)) (now (spare .entry)) (now (disk .entry))) (copyOf (s .sizes) b (merged (s .sizes) (viewOf s) (device (now (flash .entry)) (now (spare .entry)) (now (disk .entry))) b) (viewOf s) (device (now (flash .entry)) (now (spare .entry)) (now (disk .entry))))) ⌝ }
+    ensures { λ r. ⌜ handedBack (device (now (flash .exit)) (now (spare .exit)) (now (disk .exit))) (now (buffer .exit)) r ≡ handed s (carryOut allowance (readCall b offset (now (buffer .entry))) (placesOf s) (device (now (flash .entry)) (now (spare .entry)) (now (disk .entry))) (copyOf (s .sizes) b (merged (s .sizes) (placesOf s) (device (now (flash .entry)) (now (spare .entry)) (now (disk .entry))) b) (placesOf s) (device (now (flash .entry)) (now (spare .entry)) (now (disk .entry))))) ⌝ }
 {
     let z = s.sizes;
     let size = z.p * z.s;
@@ -232,7 +232,7 @@ fn stores_nothing(s: State, last: bool, b: u16) -> bool
 
 // A read without a store touches the read bucket; with fewer than two epochs left it moves nothing either.
 fn touched(s: State, last: bool, b: u16) -> State
-    ensures { λ r. ⌜ viewOf r ≡ (if last then viewOf s else touch b (viewOf s)) ⌝ }
+    ensures { λ r. ⌜ placesOf r ≡ (if last then placesOf s else touch b (placesOf s)) ⌝ }
 {
     if last {
         return s;
@@ -252,8 +252,8 @@ fn read_bucket(
     disk: &mut [u8],
 ) -> Outcome
     requires { ⌜ Lent (s .sizes) (now flash) (now spare) (now disk) ⌝ }
-    requires { ⌜ Reads (viewOf s) b offset (length (now buffer)) (now spare) ⌝ }
-    ensures { λ r. ⌜ handedBack (device (now (flash .exit)) (now (spare .exit)) (now (disk .exit))) (now (buffer .exit)) r ≡ handed s (carryOut allowance (readCall b offset (now (buffer .entry))) (viewOf s) (device (now (flash .entry)) (now (spare .entry)) (now (disk .entry))) (read (s .sizes) b (viewOf s) (device (now (flash .entry)) (now (spare .entry)) (now (disk .entry))))) ⌝ }
+    requires { ⌜ Reads (placesOf s) b offset (length (now buffer)) (now spare) ⌝ }
+    ensures { λ r. ⌜ handedBack (device (now (flash .exit)) (now (spare .exit)) (now (disk .exit))) (now (buffer .exit)) r ≡ handed s (carryOut allowance (readCall b offset (now (buffer .entry))) (placesOf s) (device (now (flash .entry)) (now (spare .entry)) (now (disk .entry))) (read (s .sizes) b (placesOf s) (device (now (flash .entry)) (now (spare .entry)) (now (disk .entry))))) ⌝ }
 {
     let last = 4294967294 < s.next;
     if stores_nothing(s, last, b) {

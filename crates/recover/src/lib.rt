@@ -21,7 +21,7 @@ ghost use Rattle.model.specs.Calls.{recoverCall, carryOut, call};
 ghost use Rattle.geometry.specs.Geometry.{device};
 ghost use Rattle.fifo.specs.View.{listOf};
 ghost use Rattle.queue.specs.View.{entriesOf};
-ghost use Rattle.state.specs.View.{viewOf};
+ghost use Rattle.state.specs.View.{placesOf, viewOf};
 ghost use Rattle.image.specs.Chip.{Chip, spareOnly};
 ghost use Rattle.classes.specs.Columns.{inOrder, column, Columns};
 ghost use Rattle.rescue.specs.Sources.{Recoverable};
@@ -128,7 +128,7 @@ fn recovered(
     requires { ⌜ Chip z (now spare) ⌝ }
     requires { ⌜ wellFormed z (spareOnly (now spare)) ≡ true ⌝ }
     requires { ⌜ Columns z (spareOnly (now spare)) (now order) (now writes) (now «dropped_writes») (now copies) (now «dropped_copies») ⌝ }
-    ensures { λ r. ⌜ viewOf r ≡ recover z (spareOnly (now (spare .entry))) .state ⌝ }
+    ensures { λ r. ⌜ placesOf r ≡ recover z (spareOnly (now (spare .entry))) .state ⌝ }
 {
     let reads = placed(z, order, copies, dropped_copies, false, spare);
     let queued = placed(z, order, writes, dropped_writes, true, spare);

@@ -92,7 +92,7 @@ pub fn make_row(
 // The mix on a chip anew, with zeros on its disk.
 pub fn mixed(z: Sizes, flash: &mut [u8], spare: &mut [u8], disk: &mut [u8]) -> Run {
     area::fill(disk, 0);
-    let state = script::unformatted(z);
+    let state = State::unformatted();
     let mut run = Run {
         state,
         plain: [0u8; 256],

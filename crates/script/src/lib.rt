@@ -1,24 +1,8 @@
 // A call as a row of bytes, made on lent areas: how programs list calls for chips of several sizes.
-use fifo::Fifo;
 use model::Sizes;
 use outcome::Outcome;
-use queue::Queue;
 use state::State;
 ghost use Prim.Native.Nat.{_≤_};
-
-// A state that holds no bucket and does not run.
-pub fn unformatted(z: Sizes) -> State {
-    State {
-        sizes: z,
-        running: false,
-        reads: Queue::empty(),
-        writes: Queue::empty(),
-        gc: Fifo::empty(),
-        free: Fifo::empty(),
-        accepted: 0,
-        next: 0,
-    }
-}
 
 // The bytes that row i of a list writes; a read finds them in its buffer.
 pub fn data_of(i: usize) -> [u8; 64] {

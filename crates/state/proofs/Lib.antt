@@ -1,4 +1,4 @@
 pub mod View
 pub mod Bounds
 pub mod Below
-pub mod Allocate
+pub mod Queued

@@ -3,18 +3,20 @@ use fifo::Fifo;
 use model::Sizes;
 use queue::Queue;
 ghost use mathlib.Core.Path.{_≡_};
-ghost use mathlib.Core.List.{_++_, map};
-ghost use Prim.Native.Nat.{_+_};
+ghost use mathlib.Core.Bool.{true};
+ghost use mathlib.Core.List.{[], _++_, map};
+ghost use Prim.Native.Nat.{_+_, _≤_};
+ghost use lib.ListN.{length};
 ghost use lib.Dec.{leb};
 ghost use Rattle.lists.specs.Lists.{if_then_else_};
 ghost use Rattle.lists.specs.Arrays.{joined};
 ghost use Rattle.model.specs.Sizes.{Device};
-ghost use Rattle.model.specs.State.{entry, cachesOf, without};
+ghost use Rattle.model.specs.State.{unformatted, moved, entry, cachesOf, without};
 ghost use Rattle.model.specs.Steps.{freed, makeRoom, taken, dropWrite, takeCopy};
 ghost use Rattle.model.specs.Operations.{halved, counted, accept, takeWrite, touch, withoutOldest};
 ghost use Rattle.fifo.specs.View.{listOf};
 ghost use Rattle.queue.specs.View.{entriesOf};
-ghost use Rattle.state.specs.View.{viewOf, stateOf, halted, Bounded};
+ghost use Rattle.state.specs.View.{placesOf, hasPlaces, viewOf, stateOf, halted, Bounded};
 
 // The queues stand first and the single bytes last: a copy of the state is then made of aligned parts.
 pub struct State {
@@ -29,9 +31,44 @@ pub struct State {
 }
 
 impl State {
+    // A state that was never formatted: format or recover makes one that runs.
+    pub fn unformatted() -> State
+        ensures { λ r. ⌜ r ≡ stateOf unformatted ⌝ }
+    {
+        let none = Sizes {
+            s: 0,
+            p: 0,
+            c: 0,
+            b: 0,
+            r: 0,
+            w: 0,
+        };
+        State {
+            reads: Queue::empty(),
+            writes: Queue::empty(),
+            gc: Fifo::empty(),
+            free: Fifo::empty(),
+            sizes: none,
+            next: 0,
+            accepted: 0,
+            running: false,
+        }
+    }
+
+    // Whether each queue's array has a place for all that its length says.
+    pub fn has_places(self) -> bool
+        ensures { λ r. ⌜ r ≡ hasPlaces self ⌝ }
+        ensures { λ r. ⌜ (r ≡ true → viewOf self ≡ placesOf self) ⌝ }
+    {
+        let reads = self.reads.has_places();
+        let writes = self.writes.has_places();
+        let gc = self.gc.has_places();
+        reads & writes & gc & self.free.has_places()
+    }
+
     // The same state with zeros in the unused places of its queues.
     pub fn cleared(mut self) -> Self
-        ensures { λ r. ⌜ r ≡ stateOf (viewOf self) ⌝ }
+        ensures { λ r. ⌜ r ≡ stateOf (placesOf self) ⌝ }
     {
         let reads = self.reads.cleared();
         let writes = self.writes.cleared();
@@ -54,8 +91,8 @@ impl State {
 
     // The GC head, once erased, is last in the free queue.
     pub fn freed(mut self) -> Self
-        requires { ⌜ Bounded (freed (viewOf self)) ⌝ }
-        ensures { λ r. ⌜ viewOf r ≡ freed (viewOf self) ⌝ }
+        requires { ⌜ Bounded (freed (placesOf self)) ⌝ }
+        ensures { λ r. ⌜ placesOf r ≡ freed (placesOf self) ⌝ }
     {
         let head = self.gc.head();
         let gc = self.gc.rest();
@@ -67,8 +104,8 @@ impl State {
 
     // Allocate's room: with an empty free queue, the GC head joins it.
     pub fn roomed(self) -> Self
-        requires { ⌜ Bounded (viewOf self) ⌝ }
-        ensures { λ r. ⌜ ((d : Device) → viewOf r ≡ makeRoom (self .sizes) (viewOf self) d .state) ⌝ }
+        requires { ⌜ Bounded (placesOf self) ⌝ }
+        ensures { λ r. ⌜ ((d : Device) → placesOf r ≡ makeRoom (self .sizes) (placesOf self) d .state) ⌝ }
     {
         if self.free.used() == 0 {
             if self.gc.used() != 0 {
@@ -80,8 +117,8 @@ impl State {
 
     // The free head is taken, and the next epoch with it.
     pub fn taken(mut self) -> Self
-        requires { ⌜ Bounded (taken (viewOf self)) ⌝ }
-        ensures { λ r. ⌜ viewOf r ≡ taken (viewOf self) ⌝ }
+        requires { ⌜ Bounded (taken (placesOf self)) ⌝ }
+        ensures { λ r. ⌜ placesOf r ≡ taken (placesOf self) ⌝ }
     {
         let free = self.free.rest();
         self.free = free;
@@ -91,8 +128,8 @@ impl State {
 
     // b's Write bucket joins GC.
     pub fn drop_write(mut self, b: u16) -> Self
-        requires { ⌜ Bounded (dropWrite b (viewOf self)) ⌝ }
-        ensures { λ r. ⌜ viewOf r ≡ dropWrite b (viewOf self) ⌝ }
+        requires { ⌜ Bounded (dropWrite b (placesOf self)) ⌝ }
+        ensures { λ r. ⌜ placesOf r ≡ dropWrite b (placesOf self) ⌝ }
     {
         let gc = with_cache(self.gc, self.writes, b);
         let writes = self.writes.without(b);
@@ -103,8 +140,8 @@ impl State {
 
     // The free head becomes b's read bucket, the most recent; the old one joins GC.
     pub fn take_copy(mut self, b: u16) -> Self
-        requires { ⌜ Bounded (takeCopy b (viewOf self)) ⌝ }
-        ensures { λ r. ⌜ viewOf r ≡ takeCopy b (viewOf self) ⌝ }
+        requires { ⌜ Bounded (takeCopy b (placesOf self)) ⌝ }
+        ensures { λ r. ⌜ placesOf r ≡ takeCopy b (placesOf self) ⌝ }
     {
         let copy = queue::entry(b, self.free.head(), 0);
         let gc = with_cache(self.gc, self.reads, b);
@@ -117,8 +154,8 @@ impl State {
 
     // The free head becomes b's Write bucket, last in the queue.
     pub fn take_write(mut self, b: u16) -> Self
-        requires { ⌜ Bounded (takeWrite b (viewOf self)) ⌝ }
-        ensures { λ r. ⌜ viewOf r ≡ takeWrite b (viewOf self) ⌝ }
+        requires { ⌜ Bounded (takeWrite b (placesOf self)) ⌝ }
+        ensures { λ r. ⌜ placesOf r ≡ takeWrite b (placesOf self) ⌝ }
     {
         let arrival = queue::entry(b, self.free.head(), 0);
         let writes = self.writes.push(arrival);
@@ -128,7 +165,7 @@ impl State {
 
     // b's read bucket becomes the most recent.
     pub fn touch(mut self, b: u16) -> Self
-        ensures { λ r. ⌜ viewOf r ≡ touch b (viewOf self) ⌝ }
+        ensures { λ r. ⌜ placesOf r ≡ touch b (placesOf self) ⌝ }
     {
         let reads = most_recent(self.reads, b);
         self.reads = reads;
@@ -137,8 +174,8 @@ impl State {
 
     // The least recent read bucket joins GC.
     pub fn drop_oldest(mut self) -> Self
-        requires { ⌜ Bounded (withoutOldest (viewOf self)) ⌝ }
-        ensures { λ r. ⌜ viewOf r ≡ withoutOldest (viewOf self) ⌝ }
+        requires { ⌜ Bounded (withoutOldest (placesOf self)) ⌝ }
+        ensures { λ r. ⌜ placesOf r ≡ withoutOldest (placesOf self) ⌝ }
     {
         let oldest = self.reads.first();
         let reads = self.reads.rest();
@@ -148,9 +185,22 @@ impl State {
         self
     }
 
+    // A drain leaves the clean copies; what was drained joins GC.
+    pub fn drained(mut self, clean: Queue, joining: Fifo) -> Self
+        requires { ⌜ length (listOf (self .gc)) + length (listOf joining) ≤ 256 ⌝ }
+        ensures { λ r. ⌜ placesOf r ≡ moved (placesOf self) (entriesOf clean) [] (listOf (self .gc) ++ listOf joining) (listOf (self .free)) ⌝ }
+    {
+        let gc = self.gc.append(joining);
+        let writes = Queue::empty();
+        self.reads = clean;
+        self.writes = writes;
+        self.gc = gc;
+        self
+    }
+
     // A write is accepted; every 16th halves all priorities.
     pub fn counted(mut self) -> Self
-        ensures { λ r. ⌜ viewOf r ≡ counted (viewOf self) ⌝ }
+        ensures { λ r. ⌜ placesOf r ≡ counted (placesOf self) ⌝ }
     {
         let writes = halved_when_due(self.writes, self.accepted);
         let accepted = next_count(self.accepted);
@@ -161,7 +211,7 @@ impl State {
 
     // A write of b is accepted, which leaves it the priority p.
     pub fn accept(mut self, b: u16, p: u8) -> Self
-        ensures { λ r. ⌜ viewOf r ≡ accept b p (viewOf self) ⌝ }
+        ensures { λ r. ⌜ placesOf r ≡ accept b p (placesOf self) ⌝ }
     {
         let writes = self.writes.prioritise(b, p);
         self.writes = writes;

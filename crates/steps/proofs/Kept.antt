@@ -15,7 +15,7 @@ use Rattle.model.specs.Sizes.{Device, body}
 use Rattle.model.specs.State.{State, moved, entry, holds, cachesOf, without}
 use Rattle.model.specs.Steps.{makeRoom, eraseStep, nothing, freed, taken, dropWrite, takeCopy}
 use Rattle.state.proofs.Bounds.{freed-bounded, drop-write-bounded, take-copy-bounded}
-use Rattle.state.proofs.Allocate.{head-below}
+use Rattle.state.proofs.Queued.{head-below}
 use Rattle.steps.specs.Ready.{Orderly, Ready}
 use Rattle.steps.proofs.Inside.{both-inside, rest-inside, one-inside, joined-inside, caches-inside, others-inside}
 

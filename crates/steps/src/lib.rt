@@ -5,7 +5,7 @@ ghost use mathlib.Core.Path.{_≡_};
 ghost use Rattle.model.specs.Steps.{eraseStep};
 ghost use Rattle.geometry.specs.Geometry.{Lent};
 ghost use Rattle.meter.specs.Run.{running};
-ghost use Rattle.state.specs.View.{viewOf};
+ghost use Rattle.state.specs.View.{placesOf};
 ghost use Rattle.steps.specs.Turns.{reached, after};
 ghost use Rattle.steps.specs.Ready.{Orderly};
 
@@ -24,8 +24,8 @@ pub fn erase_step(
     disk: &mut [u8],
 ) -> Turn
     requires { ⌜ Lent (s .sizes) (now flash) (now spare) (now disk) ⌝ }
-    requires { ⌜ Orderly (viewOf s) ⌝ }
-    ensures { λ r. ⌜ reached (now (flash .exit)) (now (spare .exit)) (now (disk .exit)) r ≡ after (s .sizes) (eraseStep (s .sizes)) (viewOf s) (running (now (flash .entry)) (now (spare .entry)) (now (disk .entry)) meter) ⌝ }
+    requires { ⌜ Orderly (placesOf s) ⌝ }
+    ensures { λ r. ⌜ reached (now (flash .exit)) (now (spare .exit)) (now (disk .exit)) r ≡ after (s .sizes) (eraseStep (s .sizes)) (placesOf s) (running (now (flash .entry)) (now (spare .entry)) (now (disk .entry)) meter) ⌝ }
     ensures { λ _. ⌜ Lent (s .sizes) (now (flash .exit)) (now (spare .exit)) (now (disk .exit)) ⌝ }
 {
     let n = s.gc.used();

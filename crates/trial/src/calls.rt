@@ -93,7 +93,7 @@ fn make_listed(
 
 // All calls of the list, and the state that they leave.
 pub fn make_all(z: Sizes, flash: &mut [u8], spare: &mut [u8], disk: &mut [u8]) -> State {
-    let mut s = script::unformatted(z);
+    let mut s = State::unformatted();
     let mut i = 0;
     while i < 46 {
         s = make_listed(s, z, i, flash, spare, disk);

@@ -13,13 +13,13 @@ ghost use Rattle.model.specs.State.{caches, isBelow};
 ghost use Rattle.model.specs.Operations.{goesFirst, leastOf, victim, outgoing};
 ghost use Rattle.image.specs.Chip.{Chip, spareOnly};
 ghost use Rattle.queue.specs.View.{entriesOf, noEntry};
-ghost use Rattle.state.specs.View.{viewOf};
+ghost use Rattle.state.specs.View.{placesOf};
 
 // b's own, which is too full; or, in a full queue, the victim's.
 pub fn outgoing(s: State, b: u16, spare: &[u8]) -> Victim
     requires { ⌜ Chip (s .sizes) (now spare) ⌝ }
     requires { ⌜ all (isBelow (s .sizes .c)) (caches (entriesOf (s .writes))) ≡ true ⌝ }
-    ensures { λ r. ⌜ r ≡ outgoing (s .sizes) (spareOnly (now (spare .entry))) b (viewOf s) ⌝ }
+    ensures { λ r. ⌜ r ≡ outgoing (s .sizes) (spareOnly (now (spare .entry))) b (placesOf s) ⌝ }
 {
     let writes = s.writes;
     if writes.holds(b) {

@@ -12,7 +12,7 @@ ghost use Rattle.model.specs.Operations.{makeWay, write};
 ghost use Rattle.model.specs.Calls.{writeCall, carryOut, call};
 ghost use Rattle.geometry.specs.Geometry.{device, Lent};
 ghost use Rattle.meter.specs.Run.{running};
-ghost use Rattle.state.specs.View.{viewOf};
+ghost use Rattle.state.specs.View.{placesOf, viewOf};
 ghost use Rattle.steps.specs.Turns.{reached, after};
 ghost use Rattle.outcome.specs.Handed.{handedBack, handed};
 ghost use Rattle.write.specs.Writes.{Yields, Writes};
@@ -27,8 +27,8 @@ fn make_way(
     disk: &mut [u8],
 ) -> Turn
     requires { ⌜ Lent (s .sizes) (now flash) (now spare) (now disk) ⌝ }
-    requires { ⌜ Yields (viewOf s) (now spare) ⌝ }
-    ensures { λ r. ⌜ reached (now (flash .exit)) (now (spare .exit)) (now (disk .exit)) r ≡ after (s .sizes) (makeWay (s .sizes) b) (viewOf s) (running (now (flash .entry)) (now (spare .entry)) (now (disk .entry)) meter) ⌝ }
+    requires { ⌜ Yields (placesOf s) (now spare) ⌝ }
+    ensures { λ r. ⌜ reached (now (flash .exit)) (now (spare .exit)) (now (disk .exit)) r ≡ after (s .sizes) (makeWay (s .sizes) b) (placesOf s) (running (now (flash .entry)) (now (spare .entry)) (now (disk .entry)) meter) ⌝ }
     ensures { λ _. ⌜ Lent (s .sizes) (now (flash .exit)) (now (spare .exit)) (now (disk .exit)) ⌝ }
 {
     let out = victim::outgoing(s, b, spare);
@@ -50,8 +50,8 @@ fn write_log(
     disk: &mut [u8],
 ) -> Turn
     requires { ⌜ Lent (s .sizes) (now flash) (now spare) (now disk) ⌝ }
-    requires { ⌜ Writes (viewOf s) (length (now bytes)) (now spare) ⌝ }
-    ensures { λ r. ⌜ reached (now (flash .exit)) (now (spare .exit)) (now (disk .exit)) r ≡ after (s .sizes) (write (s .sizes) b offset (now (bytes .entry))) (viewOf s) (running (now (flash .entry)) (now (spare .entry)) (now (disk .entry)) meter) ⌝ }
+    requires { ⌜ Writes (placesOf s) (length (now bytes)) (now spare) ⌝ }
+    ensures { λ r. ⌜ reached (now (flash .exit)) (now (spare .exit)) (now (disk .exit)) r ≡ after (s .sizes) (write (s .sizes) b offset (now (bytes .entry))) (placesOf s) (running (now (flash .entry)) (now (spare .entry)) (now (disk .entry)) meter) ⌝ }
     ensures { λ _. ⌜ Lent (s .sizes) (now (flash .exit)) (now (spare .exit)) (now (disk .exit)) ⌝ }
 {
     let n = bytes.len();
@@ -75,8 +75,8 @@ fn write_bytes(
     disk: &mut [u8],
 ) -> Outcome
     requires { ⌜ Lent (s .sizes) (now flash) (now spare) (now disk) ⌝ }
-    requires { ⌜ Writes (viewOf s) (length (now bytes)) (now spare) ⌝ }
-    ensures { λ r. ⌜ handedBack (device (now (flash .exit)) (now (spare .exit)) (now (disk .exit))) [] r ≡ handed s (carryOut allowance (writeCall b offset (now (bytes .entry))) (viewOf s) (device (now (flash .entry)) (now (spare .entry)) (now (disk .entry))) (write (s .sizes) b offset (now (bytes .entry)) (viewOf s) (device (now (flash .entry)) (now (spare .entry)) (now (disk .entry))))) ⌝ }
+    requires { ⌜ Writes (placesOf s) (length (now bytes)) (now spare) ⌝ }
+    ensures { λ r. ⌜ handedBack (device (now (flash .exit)) (now (spare .exit)) (now (disk .exit))) [] r ≡ handed s (carryOut allowance (writeCall b offset (now (bytes .entry))) (placesOf s) (device (now (flash .entry)) (now (spare .entry)) (now (disk .entry))) (write (s .sizes) b offset (now (bytes .entry)) (placesOf s) (device (now (flash .entry)) (now (spare .entry)) (now (disk .entry))))) ⌝ }
 {
     let whole = Meter::whole(allowance);
     let turn = write_log(whole, s, b, offset, bytes, flash, spare, disk);

@@ -1,5 +1,5 @@
 use Rattle.arrival.proofs.Arrived.{blanks-most, appended-by}
-use Rattle.state.specs.View.{viewOf}
+use Rattle.state.specs.View.{placesOf}
 use Rattle.image.specs.Chip.{spareOnly}
 use Rattle.geometry.proofs.Passed.{products}
 use Rattle.model.specs.Image.{blanks}
@@ -70,7 +70,7 @@ returns : tie.Need-returns
 returns c = let a = c .before .before .before .before .before .before .before .before .before .before .before .before .before .before .before .before .before .before .before .before .before .before .before .args in
     let written = c .before .before .before .before .before .before .before .program-log .ensures in (
       rw (written .0, c .accept .ensures)
-          (appended-by (a .s .sizes) (a .b) (a .offset) (a .bytes .now) (viewOf (a .s)) _ (c .before .before .before .before .before .before .before .before .before .before .before .before .before .before .before .before .before .cache-of .result) (c .before .before .before .before .before .before .before .before .before .before .before .before .before .before .before .blanks .result) (c .before .before .before .before .before .before .before .before .before .before .before .before .before .epoch-of .result) (c .before .before .before .before .before .before .before .before .before .before .before .before .pages-for .result) (c .before .before .before .before .before .before .before .before .before .before .before .before .before .before .before .before .before .cache-of .ensures) (c .before .before .before .before .before .before .before .before .before .before .before .before .before .before .before .blanks .ensures) (c .before .before .before .before .before .before .before .before .before .before .before .before .before .epoch-of .ensures) (c .before .before .before .before .before .before .before .before .before .before .before .before .pages-for .ensures)),
+          (appended-by (a .s .sizes) (a .b) (a .offset) (a .bytes .now) (placesOf (a .s)) _ (c .before .before .before .before .before .before .before .before .before .before .before .before .before .before .before .before .before .cache-of .result) (c .before .before .before .before .before .before .before .before .before .before .before .before .before .before .before .blanks .result) (c .before .before .before .before .before .before .before .before .before .before .before .before .before .epoch-of .result) (c .before .before .before .before .before .before .before .before .before .before .before .before .pages-for .result) (c .before .before .before .before .before .before .before .before .before .before .before .before .before .before .before .before .before .cache-of .ensures) (c .before .before .before .before .before .before .before .before .before .before .before .before .before .before .before .blanks .ensures) (c .before .before .before .before .before .before .before .before .before .before .before .before .before .epoch-of .ensures) (c .before .before .before .before .before .before .before .before .before .before .before .before .pages-for .ensures)),
       written .1,
     )
 

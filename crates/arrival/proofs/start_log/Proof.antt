@@ -5,7 +5,7 @@ use Rattle.model.proofs.Limits.{pages-fit}
 use Rattle.meter.specs.Run.{running}
 use Rattle.geometry.proofs.Passed.{products}
 use Rattle.geometry.specs.Geometry.{device}
-use Rattle.state.specs.View.{viewOf}
+use Rattle.state.specs.View.{placesOf}
 use Rattle.steps.proofs.Kept.{roomed}
 use Rattle.copying.proofs.Copied.{takes}
 use Rattle.arrival.proofs.Arrived.{started-by, arrival-bounded}
@@ -33,7 +33,7 @@ room-of-requires c κs = search needs
 fresh-log-requires : tie.Need-fresh-log-requires
 fresh-log-requires c κs = let start = c .before .before .before .before .before .before .before .before .before .before .before in
     let a = start .args in
-    (start .pre .0, rw (c .before .before .before .room-of .ensures) (takes (a .s .sizes) (viewOf (a .s)) (device (a .flash .now) (a .spare .now) (a .disk .now)) (start .pre .1 .fresh)))
+    (start .pre .0, rw (c .before .before .before .room-of .ensures) (takes (a .s .sizes) (placesOf (a .s)) (device (a .flash .now) (a .spare .now) (a .disk .now)) (start .pre .1 .fresh)))
 
 roomed-requires : tie.Need-roomed-requires
 roomed-requires c κs = c .before .before .before .before .before .before .before .before .before .before .before .before .before .before .before .before .before .before .pre .1 .fresh .ready .orderly .bounded
@@ -42,7 +42,7 @@ take-write-requires : tie.Need-take-write-requires
 take-write-requires c κs = let start = c .before .before .before .before .before .before .before .before .before .before .before .before .before .before .before .before .before .before .before in
     let a = start .args in
     let d = device (a .flash .now) (a .spare .now) (a .disk .now) in
-    rw (c .roomed .ensures d) (arrival-bounded (a .b) (start .pre .1) (roomed (viewOf (a .s)) (start .pre .1 .fresh .ready) (a .s .sizes) d))
+    rw (c .roomed .ensures d) (arrival-bounded (a .b) (start .pre .1) (roomed (placesOf (a .s)) (start .pre .1 .fresh .ready) (a .s .sizes) d))
 
 accept-requires : tie.Need-accept-requires
 accept-requires c κs = search needs
@@ -63,7 +63,7 @@ returns c = let start = c .before .before .before .before .before .before .befor
     let logged = c .before .before .before .before .before .before .before .before .before .fresh-log .ensures in
     let pages = c .before .before .before .before .before .before .before .before .before .before .before .before .before .before .before .pages-for in (
       rw (c .accept .ensures, c .before .take-write .ensures)
-          (started-by (a .s .sizes) (viewOf (a .s)) r (start .pre .1 .fresh .ready) (a .b) (a .offset) (a .bytes .now) (pages .result) (rw (c .before .before .before .before .before .before .before .before .before .before .before .before .before .room-of .ensures) at (logged .0)) (c .before .before .roomed .ensures (r .device)) (pages .ensures)),
+          (started-by (a .s .sizes) (placesOf (a .s)) r (start .pre .1 .fresh .ready) (a .b) (a .offset) (a .bytes .now) (pages .result) (rw (c .before .before .before .before .before .before .before .before .before .before .before .before .before .room-of .ensures) at (logged .0)) (c .before .before .roomed .ensures (r .device)) (pages .ensures)),
       logged .1,
     )
 

@@ -17,25 +17,30 @@ read-refusal-requires : tie.Need-read-refusal-requires
 read-refusal-requires c κs = search needs
 
 returns : tie.Need-returns
+unfolding viewOf
 returns c =
     let a = c .before .before .before .before .before .args in
-    let d = device (a .flash .now) (a .spare .now) (a .disk .now) in
-    stays (reading (viewOf (a .s)) d (a .b) (a .offset) (a .length)) _ (c .before .read-refusal .ensures) (c .if1 .taken)
-    ∙ ap firstFailed (writing (viewOf (a .s)) d (a .b) (a .offset) (a .length))
+    let d = device (a .flash .now) (a .spare .now) (a .disk .now) in (
+      stays (reading (viewOf (a .s)) d (a .b) (a .offset) (a .length)) _ (c .before .read-refusal .ensures .0) (c .if1 .taken)
+          ∙ ap firstFailed (writing (viewOf (a .s)) d (a .b) (a .offset) (a .length)),
+      λ h. absurd (c .if1 .taken h),
+    )
 
 returns-2 : tie.Need-returns-2
+unfolding viewOf
 returns-2 c =
     let a = c .before .before .before .before .before .before .before .args in
     let d = device (a .flash .now) (a .spare .now) (a .disk .now) in
     let epochs : leb (a .s .next) lastEpoch ≡ true = le-leb (a .s .next) lastEpoch (c .if2 .taken) in
-    rw (write-rest (viewOf (a .s)) d (a .b) (a .offset) (a .length) (sym (c .before .before .before .read-refusal .ensures) ∙ c .before .before .if1 .left), epochs)
+    (rw (write-rest (viewOf (a .s)) d (a .b) (a .offset) (a .length) (sym (c .before .before .before .read-refusal .ensures .0) ∙ c .before .before .if1 .left), epochs), λ h. c .before .before .before .read-refusal .ensures .1 (c .before .before .if1 .left))
 
 returns-3 : tie.Need-returns-3
+unfolding viewOf
 returns-3 c =
     let a = c .before .before .before .before .before .before .before .args in
     let d = device (a .flash .now) (a .spare .now) (a .disk .now) in
     let epochs : leb (a .s .next) lastEpoch ≡ false = lt-leb (a .s .next) lastEpoch (omega (arith, c .if2 .left)) in
-    rw (write-rest (viewOf (a .s)) d (a .b) (a .offset) (a .length) (sym (c .before .before .before .read-refusal .ensures) ∙ c .before .before .if1 .left), epochs)
+    (rw (write-rest (viewOf (a .s)) d (a .b) (a .offset) (a .length) (sym (c .before .before .before .read-refusal .ensures .0) ∙ c .before .before .if1 .left), epochs), λ h. absurd (omega (arith, h)))
 
 pub write-refusal-spec : {M : Type 1} → statement M
 write-refusal-spec = tie.close (tie.spec read-refusal-requires returns returns-2 returns-3)

@@ -1,5 +1,5 @@
 use borrow.Author.Needs.{needs}
-use mathlib.Core.Path.{sym}
+use mathlib.Core.Path.{sym, _∙_}
 use Rattle.state.specs.View.{viewOf}
 use Rattle.geometry.specs.Geometry.{device}
 use Rattle.outcome.proofs.Ends.{handed-taken, handed-refused}
@@ -13,8 +13,12 @@ running-refusal-requires : tie.Need-running-refusal-requires
 running-refusal-requires c κs = search needs
 
 drain-whole-requires : tie.Need-drain-whole-requires
-drain-whole-requires c κs = let a = c .before .before .before .before .before .before .before .before .before .before .before .args in
-    let opened = running-opens (viewOf (a .s)) (device (a .flash .now) (a .spare .now) (a .disk .now)) (rw (← c .before .before .before .before .running-refusal .ensures) (c .before .before .before .if1 .taken)) in
+unfolding viewOf
+drain-whole-requires c κs =
+    let a = c .before .before .before .before .before .before .before .before .before .before .before .args in
+    let tested = c .before .before .before .before .running-refusal in
+    let passed = c .before .before .before .if1 .taken in
+    let opened = running-opens (viewOf (a .s)) (device (a .flash .now) (a .spare .now) (a .disk .now)) (tested .ensures .1 passed) (sym (tested .ensures .0) ∙ passed) in
     (opened .image .lent, drains opened)
 
 refused-requires : tie.Need-refused-requires
@@ -30,10 +34,13 @@ same-length-3 : tie.Need-same-length-3
 same-length-3 c = search needs
 
 returns : tie.Need-returns
-unfolding tests refusal planOf
-returns c = let a = c .before .before .before .before .before .before .before .before .before .before .before .before .before .before .before .before .before .before .args in
-    let d = device (a .flash .now) (a .spare .now) (a .disk .now) in
-    rw (c .before .before .before .before .before .before .drain-whole .ensures) (handed-taken (a .allowance) drainCall (a .s) d (rw (← c .before .before .before .before .before .before .before .before .before .before .before .running-refusal .ensures) (c .before .before .before .before .before .before .before .before .before .before .if1 .taken)))
+unfolding viewOf tests refusal planOf
+returns c =
+    let a = c .before .before .before .before .before .before .before .before .before .before .before .before .before .before .before .before .before .before .args in
+    let tested = c .before .before .before .before .before .before .before .before .before .before .before .running-refusal in
+    let passed = c .before .before .before .before .before .before .before .before .before .before .if1 .taken in
+    c .before .before .before .before .before .before .drain-whole .ensures
+    ∙ handed-taken (a .allowance) drainCall (a .s) (viewOf (a .s)) (device (a .flash .now) (a .spare .now) (a .disk .now)) (tested .ensures .1 passed) (sym (tested .ensures .0) ∙ passed)
 
 same-length-4 : tie.Need-same-length-4
 same-length-4 c = search needs
@@ -45,11 +52,11 @@ same-length-6 : tie.Need-same-length-6
 same-length-6 c = search needs
 
 returns-2 : tie.Need-returns-2
-unfolding tests refusal lentBuffer
-returns-2 c = let a = c .before .before .before .before .before .before .before .before .before .args in
-    let d = device (a .flash .now) (a .spare .now) (a .disk .now) in
+unfolding viewOf tests refusal lentBuffer
+returns-2 c =
+    let a = c .before .before .before .before .before .before .before .before .before .args in
     let tested = c .before .before .running-refusal in
-    rw (c .refused .ensures) (handed-refused (a .allowance) drainCall (a .s) d (tested .result) (sym (tested .ensures)) (c .before .if1 .left))
+    rw (c .refused .ensures) (handed-refused (a .allowance) drainCall (a .s) (viewOf (a .s)) (device (a .flash .now) (a .spare .now) (a .disk .now)) (tested .result) (sym (tested .ensures .0)) (c .before .if1 .left))
 
 pub drain-spec : {M : Type 1} → statement M
 drain-spec =

@@ -4,7 +4,7 @@ use native.Mathlib.Omega.{arith}
 use lib.ListN.{length}
 use lib.Seq.{length-take-le}
 use Rattle.geometry.specs.Geometry.{device}
-use Rattle.state.specs.View.{viewOf}
+use Rattle.state.specs.View.{placesOf}
 use Rattle.steps.specs.Turns.{after}
 use Rattle.unclean.proofs.Leaves.{same-drained}
 use Rattle.drain.proofs.drain_queues.Statement.{statement}
@@ -40,7 +40,7 @@ unfolding after
 returns c = let a = c .before .before .before .before .before .before .before .before .before .before .before .before .before .before .before .before .before .before .args in
     let d = device (a .flash .now) (a .spare .now) (a .disk .now) in
     let w = c .before .before .before .before .before .before .write-units .ensures in
-    (rw (w .0, c .before .before .before .before .before .before .before .before .before .before .before .before .before .drained .ensures .0 ∙ same-drained (a .s .sizes) d (viewOf (a .s))), w .1)
+    (rw (w .0, c .before .before .before .before .before .before .before .before .before .before .before .before .before .drained .ensures .0 ∙ same-drained (a .s .sizes) d (placesOf (a .s))), w .1)
 
 pub drain-queues-spec : {M : Type 1} → statement M
 drain-queues-spec =

@@ -1,5 +1,6 @@
 use mathlib.Core.Path.{refl}
 use borrow.Author.Needs.{needs}
+use Rattle.state.specs.View.{placesOf}
 use Rattle.model.specs.Operations.{drain}
 use Rattle.model.specs.Calls.{drainCall, sizesOf, doneAnswer, lentBuffer, readBuffer}
 use Rattle.geometry.specs.Geometry.{device}
@@ -16,7 +17,7 @@ drain-queues-requires c κs = search needs
 finish-requires : tie.Need-finish-requires
 unfolding sizesOf
 finish-requires c κs = let a = c .before .before .before .before .before .before .before .before .before .before .before .before .before .before .before .before .args in
-    step-left (a .allowance) drainCall (a .s) (device (a .flash .now) (a .spare .now) (a .disk .now)) (drain (a .s .sizes)) (rw (c .before .before .before .before .before .before .before .before .before .before .before .before .whole .ensures) at (c .before .before .before .before .before .before .before .before .drain-queues .ensures .0))
+    step-left (a .allowance) drainCall (a .s) (placesOf (a .s)) (device (a .flash .now) (a .spare .now) (a .disk .now)) (drain (a .s .sizes)) (rw (c .before .before .before .before .before .before .before .before .before .before .before .before .whole .ensures) at (c .before .before .before .before .before .before .before .before .drain-queues .ensures .0))
 
 same-length : tie.Need-same-length
 same-length c = search needs
@@ -31,7 +32,7 @@ returns : tie.Need-returns
 unfolding sizesOf doneAnswer lentBuffer readBuffer
 returns c = let a = c .before .before .before .before .before .before .before .before .before .before .before .before .before .before .before .before .before .args in
     rw (c .finish .ensures)
-    (step-handed (a .allowance) drainCall (a .s) (device (a .flash .now) (a .spare .now) (a .disk .now)) (drain (a .s .sizes)) (rw (c .before .before .before .before .before .before .before .before .before .before .before .before .before .whole .ensures) at (c .before .before .before .before .before .before .before .before .before .drain-queues .ensures .0)) refl refl)
+    (step-handed (a .allowance) drainCall (a .s) (placesOf (a .s)) (device (a .flash .now) (a .spare .now) (a .disk .now)) (drain (a .s .sizes)) (rw (c .before .before .before .before .before .before .before .before .before .before .before .before .before .whole .ensures) at (c .before .before .before .before .before .before .before .before .before .drain-queues .ensures .0)) refl refl)
 
 pub drain-whole-spec : {M : Type 1} → statement M
 drain-whole-spec =

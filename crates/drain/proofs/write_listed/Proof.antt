@@ -3,7 +3,7 @@ use Prim.Native.Nat.{_≤_, _<_, _+_, _-_}
 use native.Mathlib.Omega.{arith}
 use mathlib.Core.Bool.{true}
 use lib.ListN.{length}
-use Rattle.state.specs.View.{viewOf}
+use Rattle.state.specs.View.{placesOf}
 use Rattle.meter.specs.Run.{running, runAll}
 use Rattle.geometry.specs.Geometry.{device, Lent}
 use Rattle.model.specs.Operations.{unclean, drain}
@@ -21,8 +21,8 @@ abbrev Inv-loop : tie.InvT-loop
 Inv-loop s backs buffer₀ flash₀ spare₀ disk₀ end left₀ b₀ buffer flash spare disk left b = (b ≤ s .sizes .b)
     × Lent (s .sizes) flash spare disk
     × (length buffer ≡ bucketSize (s .sizes))
-    × (b < s .sizes .b → unclean (s .sizes) (device flash₀ spare₀ disk₀) (viewOf s) b ≡ true)
-    × (running flash spare disk left ≡ runAll (s .sizes) (storesTo (s .sizes) (device flash₀ spare₀ disk₀) (viewOf s) b) (running flash₀ spare₀ disk₀ left₀))
+    × (b < s .sizes .b → unclean (s .sizes) (device flash₀ spare₀ disk₀) (placesOf s) b ≡ true)
+    × (running flash spare disk left ≡ runAll (s .sizes) (storesTo (s .sizes) (device flash₀ spare₀ disk₀) (placesOf s) b) (running flash₀ spare₀ disk₀ left₀))
     × Ahead (s .sizes) b (device flash₀ spare₀ disk₀) (device flash spare disk)
 
 abbrev μ-loop : tie.MeasureT-loop
@@ -34,7 +34,7 @@ next-of-requires c κs = (omega arith, omega (arith, c .before .before .before .
 loop-holds : tie.Need-loop-holds Inv-loop μ-loop
 loop-holds c = let a = c .before .before .before .before .before .before .args in
     let p = c .before .before .before .before .before .before .pre in
-    let s = viewOf (a .s) in
+    let s = placesOf (a .s) in
     let z = s .sizes in
     let d = device (a .flash .now) (a .spare .now) (a .disk .now) in
     let listed = a .backs .now in
@@ -77,7 +77,7 @@ loop-again c = let a = c .before .before .before .before .before .before .before
     let h = c .before .before .before .before .before .before .before .before .before .before .before .before .before .before .loop-test .taken in
     let w = c .before .before .before .before .before .before .before .before .before .write-back .ensures in
     let n = c .next-of2 .ensures in
-    let s = viewOf (a .s) in
+    let s = placesOf (a .s) in
     let z = s .sizes in
     let d = device (a .flash .now) (a .spare .now) (a .disk .now) in
     let start = running (a .flash .now) (a .spare .now) (a .disk .now) (a .meter) in

@@ -1,5 +1,6 @@
 use mathlib.Core.Path.{refl}
 use borrow.Author.Needs.{needs}
+use Rattle.state.specs.View.{placesOf}
 use Rattle.model.specs.Steps.{eraseStep}
 use Rattle.model.specs.Calls.{eraseCall, sizesOf, lentBuffer, readBuffer}
 use Rattle.geometry.specs.Geometry.{device}
@@ -19,7 +20,7 @@ erase-step-requires c κs = search needs
 finish-requires : tie.Need-finish-requires
 unfolding sizesOf
 finish-requires c κs = let a = c .before .before .before .before .before .before .before .before .before .before .before .before .before .before .before .before .before .args in
-    step-left (a .allowance) eraseCall (a .s) (device (a .flash .now) (a .spare .now) (a .disk .now)) (eraseStep (a .s .sizes)) (rw (c .before .before .before .before .before .before .before .before .before .before .before .before .whole .ensures) at (c .before .before .before .before .before .before .before .before .erase-step .ensures .0))
+    step-left (a .allowance) eraseCall (a .s) (placesOf (a .s)) (device (a .flash .now) (a .spare .now) (a .disk .now)) (eraseStep (a .s .sizes)) (rw (c .before .before .before .before .before .before .before .before .before .before .before .before .whole .ensures) at (c .before .before .before .before .before .before .before .before .erase-step .ensures .0))
 
 same-length : tie.Need-same-length
 same-length c = search needs
@@ -34,7 +35,7 @@ returns : tie.Need-returns
 unfolding sizesOf lentBuffer readBuffer
 returns c = let a = c .before .before .before .before .before .before .before .before .before .before .before .before .before .before .before .before .before .before .args in
     rw (c .finish .ensures, c .before .before .before .before .before .before .before .before .before .before .before .before .before .before .full-answer .ensures)
-    (step-handed (a .allowance) eraseCall (a .s) (device (a .flash .now) (a .spare .now) (a .disk .now)) (eraseStep (a .s .sizes)) (rw (c .before .before .before .before .before .before .before .before .before .before .before .before .before .whole .ensures) at (c .before .before .before .before .before .before .before .before .before .erase-step .ensures .0)) refl refl)
+    (step-handed (a .allowance) eraseCall (a .s) (placesOf (a .s)) (device (a .flash .now) (a .spare .now) (a .disk .now)) (eraseStep (a .s .sizes)) (rw (c .before .before .before .before .before .before .before .before .before .before .before .before .before .whole .ensures) at (c .before .before .before .before .before .before .before .before .before .erase-step .ensures .0)) refl refl)
 
 pub erase-head-spec : {M : Type 1} → statement M
 erase-head-spec =

@@ -12,9 +12,12 @@ running-refusal-requires : tie.Need-running-refusal-requires
 running-refusal-requires c κs = search needs
 
 erase-head-requires : tie.Need-erase-head-requires
+unfolding viewOf
 erase-head-requires c κs =
     let a = c .before .before .before .before .before .before .before .before .before .before .before .args in
-    let opened = running-opens (viewOf (a .s)) (device (a .flash .now) (a .spare .now) (a .disk .now)) (sym (c .before .before .before .before .running-refusal .ensures) ∙ c .before .before .before .if1 .taken) in
+    let tested = c .before .before .before .before .running-refusal in
+    let passed = c .before .before .before .if1 .taken in
+    let opened = running-opens (viewOf (a .s)) (device (a .flash .now) (a .spare .now) (a .disk .now)) (tested .ensures .1 passed) (sym (tested .ensures .0) ∙ passed) in
     (opened .image .lent, open-orderly opened)
 
 refused-requires : tie.Need-refused-requires
@@ -30,11 +33,13 @@ same-length-3 : tie.Need-same-length-3
 same-length-3 c = search needs
 
 returns : tie.Need-returns
-unfolding tests refusal planOf
+unfolding viewOf tests refusal planOf
 returns c =
     let a = c .before .before .before .before .before .before .before .before .before .before .before .before .before .before .before .before .before .before .args in
-    let d = device (a .flash .now) (a .spare .now) (a .disk .now) in
-    c .before .before .before .before .before .before .erase-head .ensures ∙ handed-taken (a .allowance) eraseCall (a .s) d (sym (c .before .before .before .before .before .before .before .before .before .before .before .running-refusal .ensures) ∙ c .before .before .before .before .before .before .before .before .before .before .if1 .taken)
+    let tested = c .before .before .before .before .before .before .before .before .before .before .before .running-refusal in
+    let passed = c .before .before .before .before .before .before .before .before .before .before .if1 .taken in
+    c .before .before .before .before .before .before .erase-head .ensures
+    ∙ handed-taken (a .allowance) eraseCall (a .s) (viewOf (a .s)) (device (a .flash .now) (a .spare .now) (a .disk .now)) (tested .ensures .1 passed) (sym (tested .ensures .0) ∙ passed)
 
 same-length-4 : tie.Need-same-length-4
 same-length-4 c = search needs
@@ -46,11 +51,11 @@ same-length-6 : tie.Need-same-length-6
 same-length-6 c = search needs
 
 returns-2 : tie.Need-returns-2
-unfolding tests refusal lentBuffer
+unfolding viewOf tests refusal lentBuffer
 returns-2 c =
     let a = c .before .before .before .before .before .before .before .before .before .args in
-    let d = device (a .flash .now) (a .spare .now) (a .disk .now) in
-    rw (c .refused .ensures) (handed-refused (a .allowance) eraseCall (a .s) d (c .before .before .running-refusal .result) (sym (c .before .before .running-refusal .ensures)) (c .before .if1 .left))
+    let tested = c .before .before .running-refusal in
+    rw (c .refused .ensures) (handed-refused (a .allowance) eraseCall (a .s) (viewOf (a .s)) (device (a .flash .now) (a .spare .now) (a .disk .now)) (tested .result) (sym (tested .ensures .0)) (c .before .if1 .left))
 
 pub erase-step-spec : {M : Type 1} → statement M
 erase-step-spec =

@@ -1,8 +1,8 @@
 use lib.Dec.{leb, ltb}
 use borrow.Author.Needs.{needs}
+use Rattle.lists.proofs.Tests.{every-four}
 use Rattle.model.specs.State.{topEpoch}
 use Rattle.image.specs.Chip.{spareOnly}
-use Rattle.fits.proofs.Parts.{four}
 use Rattle.fits.specs.Fits.{numbersFit}
 use Rattle.fits.proofs.numbers_fit.Statement.{statement}
 use Rattle.fits.proofs.numbers_fit.Tie as tie
@@ -13,7 +13,7 @@ top-epoch-requires c κs = search needs
 returns : tie.Need-returns
 unfolding numbersFit
 returns c = let s = c .before .before .before .before .before .before .args .s in
-    rw (c .before .before .before .before .top-epoch .ensures) (four (leb (s .accepted) 15) (leb 1 (s .next)) (ltb (topEpoch (s .sizes) (spareOnly (c .before .before .before .before .before .before .args .spare .now))) (s .next)) (leb (s .next) 4294967296))
+    rw (c .before .before .before .before .top-epoch .ensures) (every-four (leb (s .accepted) 15) (leb 1 (s .next)) (ltb (topEpoch (s .sizes) (spareOnly (c .before .before .before .before .before .before .args .spare .now))) (s .next)) (leb (s .next) 4294967296))
 
 pub numbers-fit-spec : {M : Type 1} → statement M
 numbers-fit-spec = tie.close (tie.spec top-epoch-requires returns)

@@ -1,48 +1,28 @@
-use mathlib.Core.Bool.{true, false}
-use mathlib.Core.Path.{_≡_, sym, _∙_}
-use borrow.Author.Tests.{not-true, not-false}
+use mathlib.Core.Path.{_≡_, sym, ap, _∙_}
+use mathlib.Core.Bool.{true≢false}
 use borrow.Author.Needs.{needs}
-use Rattle.lists.proofs.Tests.{every-at}
-use Rattle.model.specs.Sizes.{body}
-use Rattle.model.specs.State.{queued, eachOnce}
+use Rattle.model.specs.State.{State, stateFits}
 use Rattle.image.specs.Chip.{spareOnly}
-use Rattle.state.specs.View.{viewOf}
-use Rattle.fits.proofs.Parts.{parts}
+use Rattle.state.specs.View.{placesOf, viewOf}
+use Rattle.fits.proofs.Places.{too-long}
 use Rattle.fits.proofs.state_fits.Statement.{statement}
 use Rattle.fits.proofs.state_fits.Tie as tie
 
-buckets-once-requires : tie.Need-buckets-once-requires
-buckets-once-requires c κs = search needs
+has-places-requires : tie.Need-has-places-requires
+has-places-requires c κs = search needs
+
+places-fit-requires : tie.Need-places-fit-requires
+places-fit-requires c κs = search needs
 
 returns : tie.Need-returns
-returns c = let s = viewOf (c .before .before .before .args .s) in
-    let e : eachOnce (body (s .sizes)) (queued s) ≡ false = sym (c .before .buckets-once .ensures) ∙ not-true _ (c .if1 .taken) in
-    rw (parts s (spareOnly (c .before .before .before .args .spare .now)), e)
-
-queues-fit-requires : tie.Need-queues-fit-requires
-queues-fit-requires c κs = search needs
-
-tags-agree-requires : tie.Need-tags-agree-requires
-unfolding eachOnce
-tags-agree-requires c κs = let s = viewOf (c .before .before .before .before .args .s) in
-    let e : eachOnce (body (s .sizes)) (queued s) ≡ true = sym (c .before .before .buckets-once .ensures) ∙ not-false _ (c .before .if1 .left) in
-    (c .before .before .before .before .pre .0, (c .before .before .before .before .pre .1, every-at _ e 1))
-
-numbers-fit-requires : tie.Need-numbers-fit-requires
-numbers-fit-requires c κs = search needs
+returns c = let a = c .before .before .before .before .args in
+    let same : viewOf (a .s) ≡ placesOf (a .s) = c .before .before .has-places .ensures .1 (c .before .if1 .taken) in
+    (c .places-fit .ensures ∙ ap (λ (v : State). stateFits v (spareOnly (a .spare .now))) (sym same), λ h. same)
 
 returns-2 : tie.Need-returns-2
-returns-2 c = let s = viewOf (c .before .before .before .before .before .before .args .s) in
-    let e : eachOnce (body (s .sizes)) (queued s) ≡ true = sym (c .before .before .before .before .buckets-once .ensures) ∙ not-false _ (c .before .before .before .if1 .left) in
-    rw (parts s (spareOnly (c .before .before .before .before .before .before .args .spare .now)), e, c .numbers-fit .ensures, c .before .tags-agree .ensures, c .before .before .queues-fit .ensures)
+returns-2 c = let start = c .before .before .before in
+    let missing = sym (c .before .has-places .ensures .0) ∙ c .if1 .left in
+    (sym (too-long (start .args .s) (spareOnly (start .args .spare .now)) (start .pre .0 .limits) missing), λ h. absurd (true≢false (sym h)))
 
 pub state-fits-spec : {M : Type 1} → statement M
-state-fits-spec =
-    tie.close
-    (tie.spec
-    buckets-once-requires
-    returns
-    queues-fit-requires
-    tags-agree-requires
-    numbers-fit-requires
-    returns-2)
+state-fits-spec = tie.close (tie.spec has-places-requires places-fit-requires returns returns-2)

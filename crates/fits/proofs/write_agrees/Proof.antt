@@ -1,9 +1,9 @@
 use lib.Dec.{leb, eqb}
 use borrow.Author.Needs.{needs}
+use Rattle.lists.proofs.Tests.{every-three}
 use Rattle.model.specs.Image.{isWrite, backOf}
 use Rattle.model.specs.State.{writeAgrees}
 use Rattle.image.specs.Chip.{spareOnly}
-use Rattle.fits.proofs.Parts.{three}
 use Rattle.fits.proofs.write_agrees.Statement.{statement}
 use Rattle.fits.proofs.write_agrees.Tie as tie
 
@@ -23,7 +23,7 @@ returns : tie.Need-returns
 unfolding writeAgrees
 returns c = let a = c .before .before .before .before .before .before .before .args in
     let d = spareOnly (a .spare .now) in
-    rw (c .before .before .before .back-of .ensures, c .before .before .before .before .is-write .ensures) (three (isWrite (a .z) d (a .e .cache)) (eqb (backOf (a .z) d (a .e .cache)) (a .e .back)) (leb (a .e .priority) (a .z .p)))
+    rw (c .before .before .before .back-of .ensures, c .before .before .before .before .is-write .ensures) (every-three (isWrite (a .z) d (a .e .cache)) (eqb (backOf (a .z) d (a .e .cache)) (a .e .back)) (leb (a .e .priority) (a .z .p)))
 
 pub write-agrees-spec : {M : Type 1} → statement M
 write-agrees-spec =

@@ -1,9 +1,10 @@
-use mathlib.Core.Path.{sym, _∙_}
+use mathlib.Core.Path.{refl, sym, _∙_}
 use Rattle.geometry.specs.Geometry.{device}
 use Rattle.geometry.proofs.Passed.{lent-passed}
 use Rattle.model.specs.Calls.{formatCall, tests, refusal, planOf, lentBuffer}
 use Rattle.outcome.proofs.Ends.{handed-taken, handed-refused}
 use borrow.Author.Needs.{needs}
+use Rattle.state.specs.View.{viewOf}
 use Rattle.format.proofs.format.Statement.{statement}
 use Rattle.format.proofs.format.Tie as tie
 
@@ -32,7 +33,7 @@ unfolding tests refusal planOf
 returns c =
     let a = c .before .before .before .before .before .before .before .before .before .before .before .before .before .before .before .before .before .before .args in
     let d = device (a .flash .now) (a .spare .now) (a .disk .now) in
-    c .before .before .before .before .before .before .format-chip .ensures ∙ handed-taken (a .allowance) (formatCall (a .z)) (a .s) d (sym (c .before .before .before .before .before .before .before .before .before .before .before .lent-refusal .ensures) ∙ c .before .before .before .before .before .before .before .before .before .before .if1 .taken)
+    c .before .before .before .before .before .before .format-chip .ensures ∙ handed-taken (a .allowance) (formatCall (a .z)) (a .s) (viewOf (a .s)) d refl (sym (c .before .before .before .before .before .before .before .before .before .before .before .lent-refusal .ensures) ∙ c .before .before .before .before .before .before .before .before .before .before .if1 .taken)
 
 same-length-4 : tie.Need-same-length-4
 same-length-4 c = search needs
@@ -48,7 +49,7 @@ unfolding tests refusal lentBuffer
 returns-2 c =
     let a = c .before .before .before .before .before .before .before .before .before .args in
     let d = device (a .flash .now) (a .spare .now) (a .disk .now) in
-    rw (c .refused .ensures) (handed-refused (a .allowance) (formatCall (a .z)) (a .s) d (c .before .before .lent-refusal .result) (sym (c .before .before .lent-refusal .ensures)) (c .before .if1 .left))
+    rw (c .refused .ensures) (handed-refused (a .allowance) (formatCall (a .z)) (a .s) (viewOf (a .s)) d (c .before .before .lent-refusal .result) (sym (c .before .before .lent-refusal .ensures)) (c .before .if1 .left))
 
 pub format-spec : {M : Type 1} → statement M
 format-spec =

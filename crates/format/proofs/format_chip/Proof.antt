@@ -4,6 +4,7 @@ use Rattle.model.specs.Calls.{formatCall, sizesOf, doneAnswer, lentBuffer, read
 use Rattle.model.specs.Operations.{format}
 use Rattle.outcome.proofs.Ends.{left-within, handed-quiet}
 use borrow.Author.Needs.{needs}
+use Rattle.state.specs.View.{viewOf}
 use Rattle.format.proofs.format_chip.Statement.{statement}
 use Rattle.format.proofs.format_chip.Tie as tie
 
@@ -21,7 +22,7 @@ unfolding sizesOf format
 finish-requires c κs =
     let a = c .before .before .before .before .before .before .before .before .before .before .before .before .before .before .before .args in
     let d = device (a .flash .now) (a .spare .now) (a .disk .now) in
-    left-within (a .allowance) (formatCall (a .z)) (a .s) d (format (a .z)) (rw (c .before .before .before .before .before .before .before .before .before .before .before .whole .ensures) at (c .before .before .before .before .before .before .before .erase-all .ensures .0))
+    left-within (a .allowance) (formatCall (a .z)) (a .s) (viewOf (a .s)) d (format (a .z)) (rw (c .before .before .before .before .before .before .before .before .before .before .before .whole .ensures) at (c .before .before .before .before .before .before .before .erase-all .ensures .0))
 
 same-length : tie.Need-same-length
 same-length c = search needs
@@ -37,7 +38,7 @@ unfolding sizesOf format doneAnswer lentBuffer readBuffer
 returns c =
     let a = c .before .before .before .before .before .before .before .before .before .before .before .before .before .before .before .before .args in
     let d = device (a .flash .now) (a .spare .now) (a .disk .now) in
-    rw (c .finish .ensures, c .before .formatted .ensures) (handed-quiet (a .allowance) (formatCall (a .z)) (a .s) d (format (a .z)) refl refl (rw (c .before .before .before .before .before .before .before .before .before .before .before .before .whole .ensures) at (c .before .before .before .before .before .before .before .before .erase-all .ensures .0)))
+    rw (c .finish .ensures, c .before .formatted .ensures) (handed-quiet (a .allowance) (formatCall (a .z)) (a .s) (viewOf (a .s)) d (format (a .z)) refl refl (rw (c .before .before .before .before .before .before .before .before .before .before .before .before .whole .ensures) at (c .before .before .before .before .before .before .before .before .erase-all .ensures .0)))
 
 pub format-chip-spec : {M : Type 1} → statement M
 format-chip-spec =

@@ -1,7 +1,7 @@
 use Rattle.model.proofs.Limits.{on-chip}
 use Rattle.gather.proofs.Gathered.{readable, base-size}
 use Rattle.merge.proofs.SameChip.{same-merge}
-use Rattle.state.specs.View.{viewOf}
+use Rattle.state.specs.View.{placesOf}
 use Rattle.geometry.specs.Geometry.{device}
 use Rattle.model.specs.Steps.{baseBytes, merged}
 use native.Mathlib.Omega.{arith}
@@ -33,7 +33,7 @@ returns c = let start = c .before .before .before .before .before .before .befor
     let found = c .before .before .before .before .before .before .before .before .before .before .find in
     let a = start .args in
     let d = device (a .flash .now) (a .spare .now) (a .disk .now) in
-    let base = baseBytes (a .s .sizes) (viewOf (a .s)) d (a .b) in
+    let base = baseBytes (a .s .sizes) (placesOf (a .s)) d (a .b) in
     rw (sym (found .ensures .0) ∙ c .before .before .before .before .before .if1 .taken, ← found .ensures .1, ← same-merge (a .s .sizes) d (found .result .cache) base)
     (rw (c .before .before .before .before .before .before .before .window .given) at (c .before .before .merge-range .ensures base (base-size (start .pre .0)) (rw (c .before .before .before .before .before .before .before .window .given) (c .before .before .before .before .before .before .before .before .base-range .ensures (a .spare .now)))))
 

@@ -12,7 +12,7 @@ use Rattle.image.proofs.SameSpare.{same-dirty}
 use Rattle.meter.specs.Run.{running}
 use Rattle.queue.specs.View.{entriesOf, noEntry}
 use Rattle.state.proofs.Bounds.{oldest-bounded}
-use Rattle.state.specs.View.{viewOf}
+use Rattle.state.specs.View.{placesOf}
 use Rattle.oldest.proofs.Dropped.{some-read, not-none, oldest-below, drop-none, drop-dirty, drop-clean}
 use borrow.Author.Needs.{needs}
 use Rattle.oldest.proofs.drop_oldest.Statement.{statement}
@@ -25,14 +25,14 @@ returns : tie.Need-returns
 returns c = let start = c .before .before .before .before .before .before .before in
     let a = start .args in
     let room : length (entriesOf (a .s .reads)) < a .s .sizes .r = omega (arith, c .if1 .taken, c .before .before .used .ensures .0) in
-    (drop-none (a .s .sizes) (viewOf (a .s)) (running (a .flash .now) (a .spare .now) (a .disk .now) (a .meter)) (lt-ltb (length (entriesOf (a .s .reads))) (a .s .sizes .r) room), start .pre .0)
+    (drop-none (a .s .sizes) (placesOf (a .s)) (running (a .flash .now) (a .spare .now) (a .disk .now) (a .meter)) (lt-ltb (length (entriesOf (a .s .reads))) (a .s .sizes .r) room), start .pre .0)
 
 first-requires : tie.Need-first-requires
 first-requires c κs = search needs
 
 drop-oldest-requires : tie.Need-drop-oldest-requires
 drop-oldest-requires c κs = let start = c .before .before .before .before .before .before .before .before in
-    let v = viewOf (start .args .s) in
+    let v = placesOf (start .args .s) in
     let full : v .sizes .r ≤ length (v .reads) = omega (arith, c .before .if1 .left, c .before .before .before .used .ensures .0) in
     oldest-bounded v (start .pre .1 .orderly .bounded) (not-none v (start .pre .1) full)
 
@@ -41,7 +41,7 @@ cast-c c = search needs
 
 is-dirty-requires : tie.Need-is-dirty-requires
 is-dirty-requires c κs = let start = c .before .before .before .before .before .before .before .before .before .before .before in
-    let v = viewOf (start .args .s) in
+    let v = placesOf (start .args .s) in
     let full : v .sizes .r ≤ length (v .reads) = omega (arith, c .before .before .before .before .if1 .left, c .before .before .before .before .before .before .used .ensures .0) in
     (record { limits = start .pre .1 .orderly .limits; spare-length = start .pre .0 .spare-length }, rw (c .before .before .before .first .ensures) (on-chip (v .sizes) _ (oldest-below v (start .pre .1) full)))
 
@@ -50,7 +50,7 @@ cast-write-out c = search needs
 
 write-out-requires : tie.Need-write-out-requires
 write-out-requires c κs = let start = c .before .before .before .before .before .before .before .before .before .before .before .before .before .before .before .before .before in
-    let v = viewOf (start .args .s) in
+    let v = placesOf (start .args .s) in
     let full : v .sizes .r ≤ length (v .reads) = omega (arith, c .before .before .before .before .before .before .before .before .before .before .if1 .left, c .before .before .before .before .before .before .before .before .before .before .before .before .used .ensures .0) in (
       start .pre .0,
       record {
@@ -72,7 +72,7 @@ same-length-3 c = search needs
 returns-2 : tie.Need-returns-2
 returns-2 c = let start = c .before .before .before .before .before .before .before .before .before .before .before .before .before .before .before .before .before .before .before .before .before .before .before .before in
     let a = start .args in
-    let v = viewOf (a .s) in
+    let v = placesOf (a .s) in
     let d = device (a .flash .now) (a .spare .now) (a .disk .now) in
     let full : ltb (length (v .reads)) (v .sizes .r) ≡ false = le-ltb (length (v .reads)) (v .sizes .r) (omega (arith, c .before .before .before .before .before .before .before .before .before .before .before .before .before .before .before .before .before .if1 .left, c .before .before .before .before .before .before .before .before .before .before .before .before .before .before .before .before .before .before .before .used .ensures .0)) in
     let dirty : isDirty (v .sizes) d (getD (v .reads) 0 noEntry .cache) ≡ true = rw (← c .before .before .before .before .before .before .before .before .before .before .before .before .before .before .before .before .first .ensures) (sym (same-dirty (v .sizes) d (c .before .before .before .before .before .before .before .before .before .before .before .before .before .before .before .before .first .result .cache)) ∙ sym (c .before .before .before .before .before .before .before .before .before .before .before .before .is-dirty .ensures) ∙ c .before .before .before .before .before .before .before .before .before .before .before .if2 .taken) in
@@ -84,7 +84,7 @@ same-length-4 c = search needs
 returns-3 : tie.Need-returns-3
 returns-3 c = let start = c .before .before .before .before .before .before .before .before .before .before .before .before .before in
     let a = start .args in
-    let v = viewOf (a .s) in
+    let v = placesOf (a .s) in
     let d = device (a .flash .now) (a .spare .now) (a .disk .now) in
     let full : ltb (length (v .reads)) (v .sizes .r) ≡ false = le-ltb (length (v .reads)) (v .sizes .r) (omega (arith, c .before .before .before .before .before .before .if1 .left, c .before .before .before .before .before .before .before .before .used .ensures .0)) in
     let clean : isDirty (v .sizes) d (getD (v .reads) 0 noEntry .cache) ≡ false = rw (← c .before .before .before .before .before .first .ensures) (sym (same-dirty (v .sizes) d (c .before .before .before .before .before .first .result .cache)) ∙ sym (c .before .is-dirty .ensures) ∙ c .if2 .left) in

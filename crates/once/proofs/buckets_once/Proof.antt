@@ -11,8 +11,8 @@ use Rattle.lists.proofs.Rows.{below-alike}
 use Rattle.model.specs.State.{cacheBucket, caches, queued, onceIn, eachOnce}
 use Rattle.fifo.specs.View.{listOf}
 use Rattle.queue.specs.View.{entriesOf}
-use Rattle.state.proofs.Allocate.{queued-length}
-use Rattle.state.specs.View.{viewOf}
+use Rattle.state.proofs.Queued.{queued-length}
+use Rattle.state.specs.View.{placesOf}
 use Rattle.once.proofs.Counted.{tally-none, tally-both, tally-few, once-alone}
 use Rattle.once.proofs.buckets_once.Statement.{statement}
 use Rattle.once.proofs.buckets_once.Tie as tie
@@ -45,7 +45,7 @@ returns : tie.Need-returns
 unfolding eachOnce every
 returns c = let s = c .before .before .before .before .before .before .args .s in
     let end = c .before .before .before .before .before .body in
-    rw (← end .ensures, ne-eqb (length (queued (viewOf s))) (end .result) (λ h. c .if1 .taken (omega (arith, queued-length (viewOf s)))))
+    rw (← end .ensures, ne-eqb (length (queued (placesOf s))) (end .result) (λ h. c .if1 .taken (omega (arith, queued-length (placesOf s)))))
 
 tally-queue-requires : tie.Need-tally-queue-requires
 tally-queue-requires c κs = tally-few [] (replicate 256 0) (tally-none (replicate 256 0) (length-replicate {A = ℕ} 256 0)) (omega arith)
@@ -82,10 +82,10 @@ returns-2 c = let s = c .before .before .before .before .before .before .before 
     let writes = caches (entriesOf (s .writes)) in
     let gc = listOf (s .gc) in
     let free = listOf (s .free) in
-    let list = queued (viewOf s) in
+    let list = queued (placesOf s) in
     let rest = tally-both (c .before .before .before .before .before .before .before .before .tally-queue .last .1 .0) writes (c .before .before .before .before .before .before .tally-queue2 .last .1 .0) (gc ++ free) (c .before .before .tally2 .last .1 .0) (c .before .before .before .before .before .before .tally-queue2 .ensures) (tally-both (c .before .before .before .before .before .before .tally-queue2 .last .1 .0) gc (c .before .before .before .before .tally .last .1 .0) free (c .before .before .tally2 .last .1 .0) (c .before .before .before .before .tally .ensures) (c .before .before .tally2 .ensures)) in
     let told = tally-both (replicate 256 0) reads (c .before .before .before .before .before .before .before .before .tally-queue .last .1 .0) (writes ++ (gc ++ free)) (c .before .before .tally2 .last .1 .0) (c .before .before .before .before .before .before .before .before .tally-queue .ensures) rest in
-    let n : length list ≡ end .result = omega (arith, queued-length (viewOf s)) in
+    let n : length list ≡ end .result = omega (arith, queued-length (placesOf s)) in
     let counted : (x : ℕ) → x < end .result → eqb (getD (c .before .before .tally2 .last .1 .0) x 0) 1 ≡ onceIn list x =
     λ x h. ap (λ (m : ℕ). eqb m 1) (let k : getD (c .before .before .tally2 .last .1 .0) x 0 ≡ times x list = omega (arith, told .1 x (omega (arith, c .before .before .before .before .before .before .before .before .before .before .before .before .before .before .before .before .pre)), getD-replicate {A = ℕ} 256 x 0 0 (omega (arith, c .before .before .before .before .before .before .before .before .before .before .before .before .before .before .before .before .pre))) in k) in
     rw (← end .ensures) (c .all-once .ensures

@@ -2,7 +2,7 @@ use mathlib.Core.Path.{refl}
 use Rattle.model.specs.Steps.{nothing}
 use Rattle.geometry.specs.Geometry.{device}
 use Rattle.meter.specs.Run.{fresh, runAll}
-use Rattle.state.specs.View.{viewOf}
+use Rattle.state.specs.View.{placesOf}
 use Rattle.steps.specs.Turns.{after}
 use Rattle.read.proofs.Plans.{handed-read}
 use borrow.Author.Needs.{needs}
@@ -26,7 +26,7 @@ unfolding nothing after runAll
 returns c = let a = c .before .before .before .before .before .before .before .before .before .before .args in
     let d = device (a .flash .now) (a .spare .now) (a .disk .now) in
     rw (c .finish .ensures, c .before .whole .ensures)
-    (handed-read (a .allowance) (a .s) d (λ t. nothing (viewOf (a .new))) {q = record { run = fresh d (a .allowance); state = viewOf (a .new) }} refl (a .b) (a .offset) (a .buffer .now) (c .before .before .before .before .merged-range .ensures))
+    (handed-read (a .allowance) (a .s) d (λ t. nothing (placesOf (a .new))) {q = record { run = fresh d (a .allowance); state = placesOf (a .new) }} refl (a .b) (a .offset) (a .buffer .now) (c .before .before .before .before .merged-range .ensures))
 
 pub answer-spec : {M : Type 1} → statement M
 answer-spec = tie.close (tie.spec merged-range-requires whole-requires finish-requires same-length returns)

@@ -6,7 +6,7 @@ use mathlib.Core.Path.{_∙_}
 use Rattle.gather.proofs.Gathered.{all-shown}
 use Rattle.model.specs.Steps.{merged}
 use Rattle.geometry.specs.Geometry.{device}
-use Rattle.state.specs.View.{viewOf}
+use Rattle.state.specs.View.{placesOf}
 use Rattle.read.specs.Reads.{copyOf}
 use Rattle.read.proofs.Copies.{sources}
 use Rattle.read.proofs.Plans.{handed-read}
@@ -33,7 +33,7 @@ finish-requires : tie.Need-finish-requires
 unfolding sizesOf
 finish-requires c κs = let a = c .before .before .before .before .before .before .before .before .before .before .before .before .before .before .before .before .before .before .before .before .before .before .before .before .before .before .before .before .before .before .before .args in
     let d = device (a .flash .now) (a .spare .now) (a .disk .now) in
-    step-left (a .allowance) (readCall (a .b) (a .offset) (a .buffer .now)) (a .s) d _ (rw (c .before .before .before .before .before .before .before .before .before .before .before .before .before .before .before .before .before .before .whole .ensures) at (c .before .before .before .before .before .before .before .before .before .before .before .before .before .make-copy .ensures .0))
+    step-left (a .allowance) (readCall (a .b) (a .offset) (a .buffer .now)) (a .s) (placesOf (a .s)) d _ (rw (c .before .before .before .before .before .before .before .before .before .before .before .before .before .before .before .before .before .before .whole .ensures) at (c .before .before .before .before .before .before .before .before .before .before .before .before .before .make-copy .ensures .0))
 
 same-length : tie.Need-same-length
 same-length c = search needs
@@ -54,7 +54,7 @@ returns : tie.Need-returns
 returns c = let start = c .before .before .before .before .before .before .before .before .before .before .before .before .before .before .before .before .before .before .before .before .before .before .before .before .before .before .before .before .before .before .before .before in
     let a = start .args in
     let z = a .s .sizes in
-    let v = viewOf (a .s) in
+    let v = placesOf (a .s) in
     let d = device (a .flash .now) (a .spare .now) (a .disk .now) in
     let bytes = c .before .before .before .before .before .before .before .before .before .before .before .before .before .before .before .before .before .before .before .before .before .before .merged-range .ensures ∙ all-shown (sources (start .pre .1 .0) (start .pre .0)) (length (a .bytes .now)) (start .pre .1 .1 .1) in
     rw (c .finish .ensures)

@@ -1,6 +1,6 @@
 use mathlib.Core.Path.{_∙_}
 use Rattle.read.proofs.Copies.{left-placed, copied}
-use Rattle.state.specs.View.{viewOf}
+use Rattle.state.specs.View.{placesOf}
 use borrow.Author.Needs.{needs}
 use Rattle.read.proofs.make_copy.Statement.{statement}
 use Rattle.read.proofs.make_copy.Tie as tie
@@ -19,7 +19,7 @@ copy-requires c κs = let start = c .before .before .before .before .before .bef
     let a = start .args in
     let p = start .pre in
     let room = c .before .before .before .before .before .before .before .before .before .before .before .room-for .ensures in
-    let left = left-placed (viewOf (a .s)) (p .1 .0) (p .1 .1) (a .b) (p .1 .2) _ (rw (c .before .before .before .before .before .before .before .before .before .before .before .before .before .before .before .before .holds .ensures) at (room .0)) in
+    let left = left-placed (placesOf (a .s)) (p .1 .0) (p .1 .1) (a .b) (p .1 .2) _ (rw (c .before .before .before .before .before .before .before .before .before .before .before .before .before .before .before .before .holds .ensures) at (room .0)) in
     (rw (left .sizes) (room .1), left .copies)
 
 same-length : tie.Need-same-length
@@ -35,7 +35,7 @@ returns : tie.Need-returns
 returns c = let start = c .before .before .before .before .before .before .before .before .before .before .before .before .before .before .before .before .before .before .before .before .before .before .before .before .before .before .before .before in
     let a = start .args in
     let p = start .pre in
-    let v = viewOf (a .s) in
+    let v = placesOf (a .s) in
     let held = c .before .before .before .before .before .before .before .before .before .before .before .before .before .before .before .before .before .before .before .before .before .before .before .holds .ensures in
     let room = rw held at (c .before .before .before .before .before .before .before .before .before .before .before .before .before .before .before .before .before .before .room-for .ensures .0) in
     let left = left-placed v (p .1 .0) (p .1 .1) (a .b) (p .1 .2) _ room in

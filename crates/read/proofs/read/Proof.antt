@@ -14,8 +14,12 @@ read-refusal-requires : tie.Need-read-refusal-requires
 read-refusal-requires c κs = search needs
 
 read-bucket-requires : tie.Need-read-bucket-requires
-read-bucket-requires c κs = let a = c .before .before .before .before .before .before .before .before .before .before .before .before .before .args in
-    let opened = read-opens (viewOf (a .s)) (device (a .flash .now) (a .spare .now) (a .disk .now)) (a .b) (a .offset) (length (a .buffer .now)) (sym (c .before .before .before .before .before .read-refusal .ensures) ∙ c .before .before .before .before .if1 .taken) in
+unfolding viewOf
+read-bucket-requires c κs =
+    let a = c .before .before .before .before .before .before .before .before .before .before .before .before .before .args in
+    let tested = c .before .before .before .before .before .read-refusal in
+    let passed = c .before .before .before .before .if1 .taken in
+    let opened = read-opens (viewOf (a .s)) (device (a .flash .now) (a .spare .now) (a .disk .now)) (tested .ensures .1 passed) (a .b) (a .offset) (length (a .buffer .now)) (sym (tested .ensures .0) ∙ passed) in
     (opened .0 .image .lent, reads (opened .0) (opened .1))
 
 refused-requires : tie.Need-refused-requires
@@ -34,10 +38,13 @@ same-length-4 : tie.Need-same-length-4
 same-length-4 c = search needs
 
 returns : tie.Need-returns
-unfolding tests refusal planOf
-returns c = let a = c .before .before .before .before .before .before .before .before .before .before .before .before .before .before .before .before .before .before .before .before .before .before .args in
-    let d = device (a .flash .now) (a .spare .now) (a .disk .now) in
-    c .before .before .before .before .before .before .before .before .read-bucket .ensures ∙ handed-taken (a .allowance) (readCall (a .b) (a .offset) (a .buffer .now)) (a .s) d (sym (c .before .before .before .before .before .before .before .before .before .before .before .before .before .before .read-refusal .ensures) ∙ c .before .before .before .before .before .before .before .before .before .before .before .before .before .if1 .taken)
+unfolding viewOf tests refusal planOf
+returns c =
+    let a = c .before .before .before .before .before .before .before .before .before .before .before .before .before .before .before .before .before .before .before .before .before .before .args in
+    let tested = c .before .before .before .before .before .before .before .before .before .before .before .before .before .before .read-refusal in
+    let passed = c .before .before .before .before .before .before .before .before .before .before .before .before .before .if1 .taken in
+    c .before .before .before .before .before .before .before .before .read-bucket .ensures
+    ∙ handed-taken (a .allowance) (readCall (a .b) (a .offset) (a .buffer .now)) (a .s) (viewOf (a .s)) (device (a .flash .now) (a .spare .now) (a .disk .now)) (tested .ensures .1 passed) (sym (tested .ensures .0) ∙ passed)
 
 same-length-5 : tie.Need-same-length-5
 same-length-5 c = search needs
@@ -49,10 +56,11 @@ same-length-7 : tie.Need-same-length-7
 same-length-7 c = search needs
 
 returns-2 : tie.Need-returns-2
-unfolding tests refusal lentBuffer
-returns-2 c = let a = c .before .before .before .before .before .before .before .before .before .before .args in
-    let d = device (a .flash .now) (a .spare .now) (a .disk .now) in
-    rw (c .refused .ensures) (handed-refused (a .allowance) (readCall (a .b) (a .offset) (a .buffer .now)) (a .s) d (c .before .before .read-refusal .result) (sym (c .before .before .read-refusal .ensures)) (c .before .if1 .left))
+unfolding viewOf tests refusal lentBuffer
+returns-2 c =
+    let a = c .before .before .before .before .before .before .before .before .before .before .args in
+    let tested = c .before .before .read-refusal in
+    rw (c .refused .ensures) (handed-refused (a .allowance) (readCall (a .b) (a .offset) (a .buffer .now)) (a .s) (viewOf (a .s)) (device (a .flash .now) (a .spare .now) (a .disk .now)) (tested .result) (sym (tested .ensures .0)) (c .before .if1 .left))
 
 pub read-spec : {M : Type 1} → statement M
 read-spec =

@@ -1,6 +1,6 @@
 use Rattle.read.proofs.Plans.{epochs-left, read-stays, read-copies}
 use Rattle.read.proofs.Copies.{sources}
-use Rattle.state.specs.View.{viewOf}
+use Rattle.state.specs.View.{placesOf}
 use Rattle.geometry.specs.Geometry.{device}
 use mathlib.Core.Path.{sym, _∙_}
 use borrow.Author.Needs.{needs}
@@ -32,11 +32,11 @@ same-length-4 c = search needs
 returns : tie.Need-returns
 returns c = let a = c .before .before .before .before .before .before .before .before .before .before .before .before .before .before .before .args in
     let d = device (a .flash .now) (a .spare .now) (a .disk .now) in
-    rw (read-stays (a .s .sizes) d (a .b) (viewOf (a .s)) (sym (c .before .before .before .before .before .before .before .before .before .stores-nothing .ensures) ∙ c .before .before .before .before .before .before .before .before .if1 .taken), ← c .before .before .before .before .before .before .before .touched .ensures) (c .before .before .answer .ensures)
+    rw (read-stays (a .s .sizes) d (a .b) (placesOf (a .s)) (sym (c .before .before .before .before .before .before .before .before .before .stores-nothing .ensures) ∙ c .before .before .before .before .before .before .before .before .if1 .taken), ← c .before .before .before .before .before .before .before .touched .ensures) (c .before .before .answer .ensures)
 
 copy-read-requires : tie.Need-copy-read-requires
 copy-read-requires c κs = let start = c .before .before .before .before .before .before .before .before .before .before .before in
-    (start .pre .0, (start .pre .1, epochs-left (start .args .b) (viewOf (start .args .s)) (sym (c .before .before .before .before .before .stores-nothing .ensures) ∙ c .before .before .before .before .if1 .left)))
+    (start .pre .0, (start .pre .1, epochs-left (start .args .b) (placesOf (start .args .s)) (sym (c .before .before .before .before .before .stores-nothing .ensures) ∙ c .before .before .before .before .if1 .left)))
 
 same-length-5 : tie.Need-same-length-5
 same-length-5 c = search needs
@@ -53,7 +53,7 @@ same-length-8 c = search needs
 returns-2 : tie.Need-returns-2
 returns-2 c = let a = c .before .before .before .before .before .before .before .before .before .before .before .before .before .before .before .before .before .before .before .before .args in
     let d = device (a .flash .now) (a .spare .now) (a .disk .now) in
-    rw (read-copies (a .s .sizes) d (a .b) (viewOf (a .s)) (sym (c .before .before .before .before .before .before .before .before .before .before .before .before .before .before .stores-nothing .ensures) ∙ c .before .before .before .before .before .before .before .before .before .before .before .before .before .if1 .left)) (c .before .before .before .before .before .before .before .before .copy-read .ensures)
+    rw (read-copies (a .s .sizes) d (a .b) (placesOf (a .s)) (sym (c .before .before .before .before .before .before .before .before .before .before .before .before .before .before .stores-nothing .ensures) ∙ c .before .before .before .before .before .before .before .before .before .before .before .before .before .if1 .left)) (c .before .before .before .before .before .before .before .before .copy-read .ensures)
 
 pub read-bucket-spec : {M : Type 1} → statement M
 read-bucket-spec =

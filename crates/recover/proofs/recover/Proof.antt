@@ -3,8 +3,9 @@ use Rattle.rules.proofs.SameSpare.{same-well-formed}
 use Rattle.checks.proofs.Opens.{image-opens}
 use Rattle.model.specs.Calls.{recoverCall, tests, refusal, planOf, lentBuffer}
 use Rattle.geometry.specs.Geometry.{device}
-use mathlib.Core.Path.{sym, _∙_}
+use mathlib.Core.Path.{refl, sym, _∙_}
 use borrow.Author.Needs.{needs}
+use Rattle.state.specs.View.{viewOf}
 use Rattle.recover.proofs.recover.Statement.{statement}
 use Rattle.recover.proofs.recover.Tie as tie
 
@@ -35,7 +36,7 @@ unfolding tests refusal planOf
 returns c =
     let a = c .before .before .before .before .before .before .before .before .before .before .before .before .before .before .before .before .before .before .args in
     let d = device (a .flash .now) (a .spare .now) (a .disk .now) in
-    c .before .before .before .before .before .before .recover-chip .ensures ∙ handed-taken (a .allowance) (recoverCall (a .z)) (a .s) d (sym (c .before .before .before .before .before .before .before .before .before .before .before .image-refusal .ensures) ∙ c .before .before .before .before .before .before .before .before .before .before .if1 .taken)
+    c .before .before .before .before .before .before .recover-chip .ensures ∙ handed-taken (a .allowance) (recoverCall (a .z)) (a .s) (viewOf (a .s)) d refl (sym (c .before .before .before .before .before .before .before .before .before .before .before .image-refusal .ensures) ∙ c .before .before .before .before .before .before .before .before .before .before .if1 .taken)
 
 same-length-4 : tie.Need-same-length-4
 same-length-4 c = search needs
@@ -51,7 +52,7 @@ unfolding tests refusal lentBuffer
 returns-2 c =
     let a = c .before .before .before .before .before .before .before .before .before .args in
     let d = device (a .flash .now) (a .spare .now) (a .disk .now) in
-    rw (c .refused .ensures) (handed-refused (a .allowance) (recoverCall (a .z)) (a .s) d (c .before .before .image-refusal .result) (sym (c .before .before .image-refusal .ensures)) (c .before .if1 .left))
+    rw (c .refused .ensures) (handed-refused (a .allowance) (recoverCall (a .z)) (a .s) (viewOf (a .s)) d (c .before .before .image-refusal .result) (sym (c .before .before .image-refusal .ensures)) (c .before .if1 .left))
 
 pub recover-spec : {M : Type 1} → statement M
 recover-spec =

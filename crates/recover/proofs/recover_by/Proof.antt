@@ -6,6 +6,7 @@ use Rattle.model.specs.Recover.{recover}
 use Rattle.outcome.proofs.Ends.{left-within, handed-quiet}
 use Rattle.recover.proofs.Queues.{same-state}
 use borrow.Author.Needs.{needs}
+use Rattle.state.specs.View.{viewOf}
 use Rattle.recover.proofs.recover_by.Statement.{statement}
 use Rattle.recover.proofs.recover_by.Tie as tie
 
@@ -22,7 +23,7 @@ finish-requires : tie.Need-finish-requires
 unfolding sizesOf
 finish-requires c κs = let a = c .before .before .before .before .before .before .before .before .before .before .before .before .before .before .before .before .before .before .before .before .before .args in
     let d = device (a .flash .now) (a .spare .now) (a .disk .now) in
-    omega (arith, left-within (a .allowance) (recoverCall (a .z)) (a .s) d (recover (a .z) d) (rw (c .before .before .before .before .before .before .before .before .before .before .whole .ensures) at (c .before .before .before .before .before .before .rescue .ensures .0)))
+    omega (arith, left-within (a .allowance) (recoverCall (a .z)) (a .s) (viewOf (a .s)) d (recover (a .z) d) (rw (c .before .before .before .before .before .before .before .before .before .before .whole .ensures) at (c .before .before .before .before .before .before .rescue .ensures .0)))
 
 same-length : tie.Need-same-length
 same-length c = search needs
@@ -38,7 +39,7 @@ unfolding sizesOf doneAnswer lentBuffer readBuffer
 returns c = let a = c .before .before .before .before .before .before .before .before .before .before .before .before .before .before .before .before .before .before .before .before .before .before .args in
     let d = device (a .flash .now) (a .spare .now) (a .disk .now) in
     rw (c .finish .ensures, c .before .before .before .before .before .before .before .before .before .before .before .before .recovered .ensures ∙ same-state (a .z) d)
-    (handed-quiet (a .allowance) (recoverCall (a .z)) (a .s) d (recover (a .z) d) refl refl (rw (c .before .before .before .before .before .before .before .before .before .before .before .whole .ensures) at (c .before .before .before .before .before .before .before .rescue .ensures .0)))
+    (handed-quiet (a .allowance) (recoverCall (a .z)) (a .s) (viewOf (a .s)) d (recover (a .z) d) refl refl (rw (c .before .before .before .before .before .before .before .before .before .before .before .whole .ensures) at (c .before .before .before .before .before .before .before .rescue .ensures .0)))
 
 pub recover-by-spec : {M : Type 1} → statement M
 recover-by-spec =

@@ -1,7 +1,7 @@
 use Rattle.steps.specs.Turns.{after}
-use Rattle.state.proofs.Allocate.{head-below}
+use Rattle.state.proofs.Queued.{head-below}
 use Rattle.state.proofs.Bounds.{freed-bounded}
-use Rattle.state.specs.View.{viewOf}
+use Rattle.state.specs.View.{placesOf}
 use Rattle.fifo.specs.View.{listOf}
 use Rattle.meter.specs.Run.{runAll}
 use Rattle.model.specs.Sizes.{body}
@@ -37,7 +37,7 @@ erase-bucket-requires c κs = let s = c .before .before .before .before .before 
 
 freed-requires : tie.Need-freed-requires
 freed-requires c κs = let s = c .before .before .before .before .before .before .before .before .before .before .before .before .before .before .before .before .args .s in
-    freed-bounded (viewOf s) (c .before .before .before .before .before .before .before .before .before .before .before .before .before .before .before .before .pre .1 .bounded) (empty-length (listOf (s .gc)) ∙ ne-eqb _ _ (λ z. c .before .before .before .before .before .before .before .before .before .before .before .if1 .left (c .before .before .before .before .before .before .before .before .before .before .before .before .used .ensures .0 ∙ z)))
+    freed-bounded (placesOf s) (c .before .before .before .before .before .before .before .before .before .before .before .before .before .before .before .before .pre .1 .bounded) (empty-length (listOf (s .gc)) ∙ ne-eqb _ _ (λ z. c .before .before .before .before .before .before .before .before .before .before .before .if1 .left (c .before .before .before .before .before .before .before .before .before .before .before .before .used .ensures .0 ∙ z)))
 
 same-length : tie.Need-same-length
 same-length c = search needs

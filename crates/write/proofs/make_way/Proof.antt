@@ -1,8 +1,8 @@
 use Rattle.write.proofs.Yielded.{yields-evicts, outgoing-held}
 use Rattle.victim.proofs.SameSpare.{same-outgoing}
 use Rattle.steps.specs.Turns.{after}
-use Rattle.state.proofs.Allocate.{all-on-chip}
-use Rattle.state.specs.View.{viewOf}
+use Rattle.state.proofs.Queued.{all-on-chip}
+use Rattle.state.specs.View.{placesOf}
 use Rattle.meter.specs.Run.{runAll}
 use Rattle.geometry.specs.Geometry.{device}
 use Rattle.model.specs.Operations.{evictAny, makeWay}
@@ -41,7 +41,7 @@ returns : tie.Need-returns
 unfolding makeWay evictAny after
 returns c = let a = c .before .before .before .before .before .before .before .before .before .before .before .before .before .before .before .before .before .before .args in
     let d = device (a .flash .now) (a .spare .now) (a .disk .now) in
-    let says = sym (same-outgoing (a .s .sizes) d (a .b) (viewOf (a .s))) ∙ sym (c .before .before .before .before .before .before .before .before .before .before .before .before .before .outgoing .ensures) ∙ c .before .before .before .before .before .before .before .before .before .before .before .out .given .1 in
+    let says = sym (same-outgoing (a .s .sizes) d (a .b) (placesOf (a .s))) ∙ sym (c .before .before .before .before .before .before .before .before .before .before .before .before .before .outgoing .ensures) ∙ c .before .before .before .before .before .before .before .before .before .before .before .out .given .1 in
     (rw says (c .before .before .before .before .before .before .evict .ensures .0), c .before .before .before .before .before .before .evict .ensures .1)
 
 same-length-4 : tie.Need-same-length-4
@@ -51,7 +51,7 @@ returns-2 : tie.Need-returns-2
 unfolding makeWay evictAny nothing after runAll
 returns-2 c = let a = c .before .before .before .before .before .before .before .args in
     let d = device (a .flash .now) (a .spare .now) (a .disk .now) in
-    let says = sym (same-outgoing (a .s .sizes) d (a .b) (viewOf (a .s))) ∙ sym (c .before .before .outgoing .ensures) ∙ c .enum-told .given .1 in
+    let says = sym (same-outgoing (a .s .sizes) d (a .b) (placesOf (a .s))) ∙ sym (c .before .before .outgoing .ensures) ∙ c .enum-told .given .1 in
     (rw says, c .before .before .before .before .before .before .before .pre .0)
 
 pub make-way-spec : {M : Type 1} → statement M

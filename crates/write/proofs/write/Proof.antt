@@ -17,14 +17,21 @@ write-refusal-requires : tie.Need-write-refusal-requires
 write-refusal-requires c κs = search needs
 
 cast-write-bytes : tie.Need-cast-write-bytes
-unfolding bucketSize
-cast-write-bytes c = let a = c .before .before .before .before .before .before .before .before .before .args in
-    let opened = write-opens (viewOf (a .s)) (device (a .flash .now) (a .spare .now) (a .disk .now)) (a .b) (a .offset) (length (a .bytes .now)) (sym (c .before .write-refusal .ensures) ∙ c .if1 .taken) in
+unfolding viewOf bucketSize
+cast-write-bytes c =
+    let a = c .before .before .before .before .before .before .before .before .before .args in
+    let tested = c .before .write-refusal in
+    let passed = c .if1 .taken in
+    let opened = write-opens (viewOf (a .s)) (device (a .flash .now) (a .spare .now) (a .disk .now)) (tested .ensures .1 passed) (a .b) (a .offset) (length (a .bytes .now)) (sym (tested .ensures .0) ∙ passed) in
     omega (arith, opened .1 .n-some, opened .1 .range-in, products (opened .0 .image .limits))
 
 write-bytes-requires : tie.Need-write-bytes-requires
-write-bytes-requires c κs = let a = c .before .before .before .before .before .before .before .before .before .before .before .before .args in
-    let opened = write-opens (viewOf (a .s)) (device (a .flash .now) (a .spare .now) (a .disk .now)) (a .b) (a .offset) (length (a .bytes .now)) (sym (c .before .before .before .before .write-refusal .ensures) ∙ c .before .before .before .if1 .taken) in
+unfolding viewOf
+write-bytes-requires c κs =
+    let a = c .before .before .before .before .before .before .before .before .before .before .before .before .args in
+    let tested = c .before .before .before .before .write-refusal in
+    let passed = c .before .before .before .if1 .taken in
+    let opened = write-opens (viewOf (a .s)) (device (a .flash .now) (a .spare .now) (a .disk .now)) (tested .ensures .1 passed) (a .b) (a .offset) (length (a .bytes .now)) (sym (tested .ensures .0) ∙ passed) in
     (opened .0 .image .lent, open-writes (opened .0) (opened .1) (opened .2))
 
 refused-requires : tie.Need-refused-requires
@@ -40,10 +47,13 @@ same-length-3 : tie.Need-same-length-3
 same-length-3 c = search needs
 
 returns : tie.Need-returns
-unfolding tests refusal planOf
-returns c = let a = c .before .before .before .before .before .before .before .before .before .before .before .before .before .before .before .before .before .before .before .args in
-    let d = device (a .flash .now) (a .spare .now) (a .disk .now) in
-    c .before .before .before .before .before .before .write-bytes .ensures ∙ handed-taken (a .allowance) (writeCall (a .b) (a .offset) (a .bytes .now)) (a .s) d (sym (c .before .before .before .before .before .before .before .before .before .before .before .write-refusal .ensures) ∙ c .before .before .before .before .before .before .before .before .before .before .if1 .taken)
+unfolding viewOf tests refusal planOf
+returns c =
+    let a = c .before .before .before .before .before .before .before .before .before .before .before .before .before .before .before .before .before .before .before .args in
+    let tested = c .before .before .before .before .before .before .before .before .before .before .before .write-refusal in
+    let passed = c .before .before .before .before .before .before .before .before .before .before .if1 .taken in
+    c .before .before .before .before .before .before .write-bytes .ensures
+    ∙ handed-taken (a .allowance) (writeCall (a .b) (a .offset) (a .bytes .now)) (a .s) (viewOf (a .s)) (device (a .flash .now) (a .spare .now) (a .disk .now)) (tested .ensures .1 passed) (sym (tested .ensures .0) ∙ passed)
 
 same-length-4 : tie.Need-same-length-4
 same-length-4 c = search needs
@@ -55,10 +65,11 @@ same-length-6 : tie.Need-same-length-6
 same-length-6 c = search needs
 
 returns-2 : tie.Need-returns-2
-unfolding tests refusal lentBuffer
-returns-2 c = let a = c .before .before .before .before .before .before .before .before .before .before .args in
-    let d = device (a .flash .now) (a .spare .now) (a .disk .now) in
-    rw (c .refused .ensures) (handed-refused (a .allowance) (writeCall (a .b) (a .offset) (a .bytes .now)) (a .s) d (c .before .before .write-refusal .result) (sym (c .before .before .write-refusal .ensures)) (c .before .if1 .left))
+unfolding viewOf tests refusal lentBuffer
+returns-2 c =
+    let a = c .before .before .before .before .before .before .before .before .before .before .args in
+    let tested = c .before .before .write-refusal in
+    rw (c .refused .ensures) (handed-refused (a .allowance) (writeCall (a .b) (a .offset) (a .bytes .now)) (a .s) (viewOf (a .s)) (device (a .flash .now) (a .spare .now) (a .disk .now)) (tested .result) (sym (tested .ensures .0)) (c .before .if1 .left))
 
 pub write-spec : {M : Type 1} → statement M
 write-spec =

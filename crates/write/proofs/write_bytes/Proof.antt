@@ -4,6 +4,7 @@ use Rattle.model.specs.Calls.{writeCall, sizesOf, lentBuffer, readBuffer, doneA
 use Rattle.outcome.proofs.Ends.{step-left, step-handed}
 use Rattle.geometry.specs.Geometry.{device}
 use borrow.Author.Needs.{needs}
+use Rattle.state.specs.View.{placesOf}
 use Rattle.write.proofs.write_bytes.Statement.{statement}
 use Rattle.write.proofs.write_bytes.Tie as tie
 
@@ -16,7 +17,7 @@ write-log-requires c κs = search needs
 finish-requires : tie.Need-finish-requires
 unfolding sizesOf
 finish-requires c κs = let a = c .before .before .before .before .before .before .before .before .before .before .before .before .before .before .before .before .before .args in
-    step-left (a .allowance) (writeCall (a .b) (a .offset) (a .bytes .now)) (a .s) (device (a .flash .now) (a .spare .now) (a .disk .now)) (write (a .s .sizes) (a .b) (a .offset) (a .bytes .now)) (rw (c .before .before .before .before .before .before .before .before .before .before .before .before .whole .ensures) at (c .before .before .before .before .before .before .before .before .write-log .ensures .0))
+    step-left (a .allowance) (writeCall (a .b) (a .offset) (a .bytes .now)) (a .s) (placesOf (a .s)) (device (a .flash .now) (a .spare .now) (a .disk .now)) (write (a .s .sizes) (a .b) (a .offset) (a .bytes .now)) (rw (c .before .before .before .before .before .before .before .before .before .before .before .before .whole .ensures) at (c .before .before .before .before .before .before .before .before .write-log .ensures .0))
 
 same-length : tie.Need-same-length
 same-length c = search needs
@@ -31,7 +32,7 @@ returns : tie.Need-returns
 unfolding sizesOf doneAnswer lentBuffer readBuffer
 returns c = let a = c .before .before .before .before .before .before .before .before .before .before .before .before .before .before .before .before .before .before .args in
     rw (c .finish .ensures)
-    (step-handed (a .allowance) (writeCall (a .b) (a .offset) (a .bytes .now)) (a .s) (device (a .flash .now) (a .spare .now) (a .disk .now)) (write (a .s .sizes) (a .b) (a .offset) (a .bytes .now)) (rw (c .before .before .before .before .before .before .before .before .before .before .before .before .before .whole .ensures) at (c .before .before .before .before .before .before .before .before .before .write-log .ensures .0)) refl refl)
+    (step-handed (a .allowance) (writeCall (a .b) (a .offset) (a .bytes .now)) (a .s) (placesOf (a .s)) (device (a .flash .now) (a .spare .now) (a .disk .now)) (write (a .s .sizes) (a .b) (a .offset) (a .bytes .now)) (rw (c .before .before .before .before .before .before .before .before .before .before .before .before .before .whole .ensures) at (c .before .before .before .before .before .before .before .before .before .write-log .ensures .0)) refl refl)
 
 pub write-bytes-spec : {M : Type 1} → statement M
 write-bytes-spec =

@@ -2,7 +2,7 @@ use Rattle.write.proofs.Yielded.{fit-pages, way-left, written-by, write
 use Rattle.arrival.proofs.Arrived.{same-fits}
 use Rattle.steps.proofs.Kept.{body-some}
 use Rattle.steps.proofs.Inside.{cache-inside}
-use Rattle.state.specs.View.{viewOf}
+use Rattle.state.specs.View.{placesOf}
 use Rattle.queue.specs.View.{entriesOf}
 use Rattle.image.specs.Chip.{spareOnly}
 use Rattle.geometry.proofs.Passed.{products}
@@ -40,7 +40,7 @@ append-log-requires c κs = let start = c .before .before .before .before .befor
         bucket = on-chip (a .s .sizes) _ (cache-inside (body (a .s .sizes)) (a .b) (entriesOf (a .s .writes)) (orderly .writes) (body-some orderly));
         some = writes .some;
         room = writes .room;
-        pages = fit-pages (a .s .sizes) (spareOnly (a .spare .now)) (a .b) pages (viewOf (a .s)) (sym (c .before .before .before .before .fits2 .ensures) ∙ c .before .before .before .if1 .taken);
+        pages = fit-pages (a .s .sizes) (spareOnly (a .spare .now)) (a .b) pages (placesOf (a .s)) (sym (c .before .before .before .before .fits2 .ensures) ∙ c .before .before .before .if1 .taken);
       },
     )
 
@@ -59,7 +59,7 @@ returns c = let a = c .before .before .before .before .before .before .before .b
     let z = a .s .sizes in
     let d = device (a .flash .now) (a .spare .now) (a .disk .now) in
     let pages = pagesFor z (length (a .bytes .now)) in
-    let fitting : fits z d (a .b) pages (viewOf (a .s)) ≡ true = sym (same-fits z d (a .b) pages (viewOf (a .s))) ∙ sym (c .before .before .before .before .before .before .before .before .before .before .before .fits2 .ensures) ∙ c .before .before .before .before .before .before .before .before .before .before .if1 .taken in
+    let fitting : fits z d (a .b) pages (placesOf (a .s)) ≡ true = sym (same-fits z d (a .b) pages (placesOf (a .s))) ∙ sym (c .before .before .before .before .before .before .before .before .before .before .before .fits2 .ensures) ∙ c .before .before .before .before .before .before .before .before .before .before .if1 .taken in
     (rw fitting (c .before .before .before .before .before .before .append-log .ensures .0), c .before .before .before .before .before .before .append-log .ensures .1)
 
 make-way-requires : tie.Need-make-way-requires
@@ -69,7 +69,7 @@ start-log-requires : tie.Need-start-log-requires
 start-log-requires c κs = let start = c .before .before .before .before .before .before .before .before .before .before .before .before .before .before .before .before .before .before .before .before .before .before in
     let a = start .args in
     let made = c .before .before .before .before .before .before .before .before .before .before .before .make-way .ensures in
-    let way = way-left (viewOf (a .s)) (a .spare .now) (start .pre .1 .yields) (a .b) _ (made .0) in
+    let way = way-left (placesOf (a .s)) (a .spare .now) (start .pre .1 .yields) (a .b) _ (made .0) in
     (rw (way .sizes) (made .1), write-starts (start .pre .1) way)
 
 same-length-4 : tie.Need-same-length-4
@@ -87,11 +87,11 @@ returns-2 c = let start = c .before .before .before .before .before .before .bef
     let z = a .s .sizes in
     let d = device (a .flash .now) (a .spare .now) (a .disk .now) in
     let pages = pagesFor z (length (a .bytes .now)) in
-    let full : fits z d (a .b) pages (viewOf (a .s)) ≡ false = sym (same-fits z d (a .b) pages (viewOf (a .s))) ∙ sym (c .before .before .before .before .before .before .before .before .before .before .before .before .before .before .before .before .before .before .before .before .before .before .before .fits2 .ensures) ∙ c .before .before .before .before .before .before .before .before .before .before .before .before .before .before .before .before .before .before .before .before .before .before .if1 .left in
+    let full : fits z d (a .b) pages (placesOf (a .s)) ≡ false = sym (same-fits z d (a .b) pages (placesOf (a .s))) ∙ sym (c .before .before .before .before .before .before .before .before .before .before .before .before .before .before .before .before .before .before .before .before .before .before .before .fits2 .ensures) ∙ c .before .before .before .before .before .before .before .before .before .before .before .before .before .before .before .before .before .before .before .before .before .before .if1 .left in
     let made = c .before .before .before .before .before .before .before .before .before .before .before .before .before .before .before .before .before .before .make-way .ensures in
     let started = c .before .before .before .before .before .before .start-log .ensures in (
-      written-by (viewOf (a .s)) (a .spare .now) (start .pre .1 .yields) (a .b) _ (made .0) (a .offset) (a .bytes .now) full (started .0),
-      rw (way-left (viewOf (a .s)) (a .spare .now) (start .pre .1 .yields) (a .b) _ (made .0) .sizes) at (started .1),
+      written-by (placesOf (a .s)) (a .spare .now) (start .pre .1 .yields) (a .b) _ (made .0) (a .offset) (a .bytes .now) full (started .0),
+      rw (way-left (placesOf (a .s)) (a .spare .now) (start .pre .1 .yields) (a .b) _ (made .0) .sizes) at (started .1),
     )
 
 pub write-log-spec : {M : Type 1} → statement M

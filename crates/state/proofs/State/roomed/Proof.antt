@@ -5,7 +5,7 @@ use Rattle.lists.specs.Lists.{empty}
 use Rattle.lists.proofs.Arrays.{empty-length}
 use Rattle.model.specs.Steps.{eraseStep, makeRoom, nothing}
 use Rattle.fifo.specs.View.{listOf}
-use Rattle.state.specs.View.{viewOf}
+use Rattle.state.specs.View.{placesOf}
 use Rattle.state.proofs.Bounds.{freed-bounded}
 use borrow.Author.Needs.{needs}
 use Rattle.state.proofs.State.roomed.Statement.{statement}
@@ -24,7 +24,7 @@ used-requires-2 : tie.Need-used-requires-2
 used-requires-2 c κs = search needs
 
 freed-requires : tie.Need-freed-requires
-freed-requires c κs = freed-bounded (viewOf (c .before .before .before .before .args .self)) (c .before .before .before .before .pre) (some-gc c)
+freed-requires c κs = freed-bounded (placesOf (c .before .before .before .before .args .self)) (c .before .before .before .before .pre) (some-gc c)
 
 returns : tie.Need-returns
 unfolding makeRoom eraseStep
