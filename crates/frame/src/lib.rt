@@ -7,6 +7,22 @@ ghost use lib.ListN.{length, drop};
 ghost use Rattle.model.specs.Driving.{bytesOf, operation, frameFits, lineFits};
 ghost use Rattle.frame.specs.Request.{formatFrom, readFrom, writeFrom, bareFrom, frameRequest, requestOf};
 
+// The digits of the longest line.
+const LONGEST: usize = 512;
+
+// The operation bytes.
+const FORMAT: usize = 1;
+
+const READ: usize = 2;
+
+const WRITE: usize = 3;
+
+const ERASE_STEP: usize = 4;
+
+const DRAIN: usize = 5;
+
+const RECOVER: usize = 6;
+
 // The data of a write: the byte of the frame where they begin, and how many they are.
 pub struct Data {
     pub at: usize,
@@ -101,8 +117,8 @@ fn bare_request(operation: usize, allowance: usize) -> Request
     ensures { λ r. ⌜ r ≡ bareFrom operation allowance ⌝ }
 {
     match operation {
-        4 => Request::Erase(allowance),
-        5 => Request::Drain(allowance),
+        ERASE_STEP => Request::Erase(allowance),
+        DRAIN => Request::Drain(allowance),
         _ => Request::Recover(allowance),
     }
 }
@@ -114,9 +130,9 @@ fn frame_request(text: &[u8]) -> Request
     let operation = line::next(line::start(text), 1);
     let allowance = line::next(operation, 2);
     match operation.field {
-        1 => format_request(allowance),
-        2 => read_request(allowance),
-        3 => write_request(allowance),
+        FORMAT => format_request(allowance),
+        READ => read_request(allowance),
+        WRITE => write_request(allowance),
         _ => bare_request(operation.field, allowance.field),
     }
 }
@@ -129,26 +145,26 @@ fn frame_operation(text: &[u8]) -> usize
     operation.field
 }
 
-// A known operation with fields of the right length.
+// A known operation with fields of the right length, behind 3 bytes of operation and allowance.
 fn frame_fits(line: &[u8]) -> bool
     ensures { λ r. ⌜ r ≡ frameFits (bytesOf (now (line .entry))) ⌝ }
 {
     let bytes = line.len() / 2;
     let operation = frame_operation(line);
     match operation {
-        1 => bytes == 12,
-        2 => bytes == 9,
-        3 => 7 <= bytes,
-        4..=6 => bytes == 3,
+        FORMAT => bytes == 12,
+        READ => bytes == 9,
+        WRITE => 7 <= bytes,
+        ERASE_STEP..=RECOVER => bytes == 3,
         _ => false,
     }
 }
 
-// Whether the line is none of the paper's F0. A line of over 512 digits is not looked at.
+// Whether the line is none of the paper's F0. A line that is too long is not looked at.
 pub fn line_fits(line: &[u8]) -> bool
     ensures { λ r. ⌜ r ≡ lineFits (now (line .entry)) ⌝ }
 {
-    if 512 < line.len() {
+    if LONGEST < line.len() {
         return false;
     }
     digits::all_digits(line) & (line.len() % 2 == 0) & frame_fits(line)

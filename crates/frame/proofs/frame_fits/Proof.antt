@@ -14,29 +14,33 @@ frame-operation-requires c κs = search needs
 
 returns : tie.Need-returns
 returns c =
-    let f = bytesOf (c .before .before .before .args .line .now) in
+    let line = c .before .before .before .args .line .now in
+    let f = bytesOf line in
     let e : operation f ≡ 1 = omega (arith, c .before .frame-operation .ensures) in
-    sym (format-fits f e ∙ rw (bytes-length (c .before .before .before .args .line .now)))
+    sym (format-fits f e ∙ rw (bytes-length line))
 
 returns-2 : tie.Need-returns-2
 returns-2 c =
-    let f = bytesOf (c .before .before .before .args .line .now) in
+    let line = c .before .before .before .args .line .now in
+    let f = bytesOf line in
     let e : operation f ≡ 2 = omega (arith, c .before .frame-operation .ensures) in
-    sym (read-fits f e ∙ rw (bytes-length (c .before .before .before .args .line .now)))
+    sym (read-fits f e ∙ rw (bytes-length line))
 
 returns-3 : tie.Need-returns-3
 returns-3 c =
-    let f = bytesOf (c .before .before .before .args .line .now) in
+    let line = c .before .before .before .args .line .now in
+    let f = bytesOf line in
     let e : operation f ≡ 3 = omega (arith, c .before .frame-operation .ensures) in
-    sym (write-fits f e ∙ rw (bytes-length (c .before .before .before .args .line .now)))
+    sym (write-fits f e ∙ rw (bytes-length line))
 
 returns-4 : tie.Need-returns-4
 returns-4 c =
-    let f = bytesOf (c .before .before .before .before .before .args .line .now) in
+    let line = c .before .before .before .before .before .args .line .now in
+    let f = bytesOf line in
     let o = c .before .before .before .frame-operation .ensures in
     let h : 4 ≤ operation f = omega arith in
     let k : operation f ≤ 6 = omega arith in
-    sym (bare-fits f h k ∙ rw (bytes-length (c .before .before .before .before .before .args .line .now)))
+    sym (bare-fits f h k ∙ rw (bytes-length line))
 
 returns-5 : tie.Need-returns-5
 returns-5 c =
