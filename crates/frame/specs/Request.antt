@@ -10,7 +10,7 @@ use Rattle.model.specs.Driving.{bytesOf, operation, allowance, formatSizes, lin
 use Rattle.frame.specs.declared.Request.{Request}
 use Rattle.frame.specs.declared.Request.the-variants.{Bad, Format, Read, Write, Erase, Drain, Recover}
 
--- the requests of frames with fields, at the allowance n
+-- The requests of frames with fields, at the allowance n. The data of a write are what is left behind its fields.
 
 unfoldable pub formatFrom : ℕ → List ℕ → Request
 formatFrom n f = Format n (formatSizes f)

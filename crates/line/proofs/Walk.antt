@@ -17,12 +17,12 @@ use prog.Wp.{Heap, Env, Calls, Loops}
 use ghost.Atoms.{Atoms, sem}
 use contract.Lifetimes.{Lfts}
 use contract.Monad.{Fun, fact}
-use types.Kit.{Given, Item, Post, runs, lands, Seq, ‵, raw, _⊛_, ⋆, some, later, _$_, _∵_, !, qed, by, move, drop as discard, use1, use2, split, join, pick, rewrite, fjoin, frame, await, done}
+use types.Kit.{Given, Item, Post, runs, lands, Seq, ‵, raw, _⊛_, ⋆, some, later, _$_, _∵_, !, qed, move, use1, use2, split, join, pick, rewrite, fjoin, frame, await, done}
 use types.Run.{Opds}
 use sound.WpLaws.{FmC}
 use denote.RattleType.{RattleType}
 use denote.Laws.{Is, shows}
-use denote.Plain.{uint-makes, uint-tells}
+use denote.Plain.{uint-makes}
 use denote.Builtin.{u8, usize}
 use denote.Ref.{RefT, NamedLft, now}
 use denote.Signature.{namedLft}
