@@ -1,5 +1,5 @@
 -- What a request says of the line that asks for it.
-use mathlib.Core.Path.{_≡_, ap, _∙_}
+use mathlib.Core.Path.{_≡_, refl, ap, _∙_}
 use mathlib.Core.Bool.{Bool, true, false, not}
 use mathlib.Core.List.{List}
 use Prim.Native.Nat.{ℕ, _+_, _<_, _≤_}
@@ -13,14 +13,14 @@ use Rattle.model.specs.declared.Sizes.{Sizes}
 use Rattle.model.specs.Sizes.{Device}
 use Rattle.model.specs.Spare.{two}
 use Rattle.model.specs.Calls.{lentBuffer, call}
-use Rattle.model.specs.Driving.{bytesOf, operation, allowance, formatSizes, lineFits, callOf}
+use Rattle.model.specs.Driving.{bytesOf, operation, allowance, lineFits, callOf}
 use Rattle.digits.proofs.Bytes.{bytes-length, byte-small}
 use Rattle.state.specs.declared.State.{State}
 use Rattle.state.specs.View.{viewOf}
 use Rattle.outcome.specs.Handed.{Handed, handed}
 use Rattle.frame.specs.declared.Request.{Request}
 use Rattle.frame.specs.declared.Request.the-variants.{Bad, Format, Read, Write, Erase, Drain, Recover}
-use Rattle.frame.specs.Request.{readFrom, writeFrom, frameRequest, requestOf}
+use Rattle.frame.specs.Request.{formatFrom, readFrom, writeFrom, bareFrom, frameRequest, requestOf}
 use Rattle.frame.proofs.Fits.{fits-digits}
 use Rattle.calls.specs.Arrays.{seen}
 use Rattle.frame.proofs.Meaning.{callFrom, allowanceOf, isBad, frame-call, frame-allowance, line-bad, line-asks}
@@ -31,33 +31,33 @@ unfolding two
 two-small line i e = omega (arith, byte-small line i (fits-digits line e), byte-small line (i + 1) (fits-digits line e))
 
 -- a write's data, from a line of 512 digits at the most
-pub data-short : (line : List ℕ) → lineFits line ≡ true → length (drop 7 (bytesOf line)) ≤ 65535
+pub data-short : (line : List ℕ) (at : ℕ) → lineFits line ≡ true → length (drop at (bytesOf line)) ≤ 65535
 unfolding lineFits
-data-short line e = omega (arith, leb-true (length line) 512 (every-at _ e 2), bytes-length line, length-drop 7 (bytesOf line))
+data-short line at e = omega (arith, leb-true (length line) 512 (every-at _ e 2), bytes-length line, length-drop at (bytesOf line))
 
--- the fields of a read or a write that stand in narrower numbers
-abbrev pub Narrow : Request → Type 0
-Narrow Bad = Unit {0}
-Narrow (Format n sizes) = Unit {0}
-Narrow (Read n b off len) = (b < 65536) × (len < 65536)
-Narrow (Write n b off) = b < 65536
-Narrow (Erase n) = Unit {0}
-Narrow (Drain n) = Unit {0}
-Narrow (Recover n) = Unit {0}
+-- the fields of a read or a write that stand in narrower numbers, and how many the data of a write are
+abbrev pub Narrow : List ℕ → Request → Type 0
+Narrow f Bad = Unit {0}
+Narrow f (Format n sizes) = Unit {0}
+Narrow f (Read n b off len) = (b < 65536) × (len < 65536)
+Narrow f (Write n b off placed) = (b < 65536) × (placed .length ≡ length (drop (placed .at) f))
+Narrow f (Erase n) = Unit {0}
+Narrow f (Drain n) = Unit {0}
+Narrow f (Recover n) = Unit {0}
 
-frame-narrow : (f : List ℕ) → ((i : ℕ) → two f i < 65536) → Narrow (frameRequest f)
-unfolding frameRequest readFrom writeFrom
+frame-narrow : (f : List ℕ) → ((i : ℕ) → two f i < 65536) → Narrow f (frameRequest f)
+unfolding frameRequest formatFrom readFrom writeFrom bareFrom
 frame-narrow f h = go (eqb (operation f) 1) (eqb (operation f) 2) (eqb (operation f) 3) (eqb (operation f) 4) (eqb (operation f) 5)
   where
-    go : (t u v w s : Bool) → Narrow
-        (if t then Format (allowance f) (formatSizes f)
-        else (if u then Read (allowance f) (two f 3) (two f 5) (two f 7)
-        else (if v then Write (allowance f) (two f 3) (two f 5)
+    go : (t u v w s : Bool) → Narrow f
+        (if t then formatFrom (allowance f) f
+        else (if u then readFrom (allowance f) f
+        else (if v then writeFrom (allowance f) f
         else (if w then Erase (allowance f)
         else (if s then Drain (allowance f) else Recover (allowance f))))))
     go true u v w s = tt
     go false true v w s = (h 3, h 7)
-    go false false true w s = h 3
+    go false false true w s = (h 3, refl)
     go false false false true s = tt
     go false false false false true = tt
     go false false false false false = tt
@@ -66,17 +66,17 @@ module _ (line : List ℕ) {q : Request} (fits : lineFits line ≡ true) (e : q 
   pub asked-good : isBad q ≡ false
   asked-good = ap isBad e ∙ (line-bad line ∙ ap not fits)
 
-  asked-call : (z : Sizes) → callFrom z (drop 7 (bytesOf line)) q ≡ callOf z (bytesOf line)
-  asked-call z = ap (callFrom z (drop 7 (bytesOf line))) (e ∙ line-asks line fits) ∙ frame-call (bytesOf line) z
+  asked-call : (z : Sizes) → callFrom z (bytesOf line) q ≡ callOf z (bytesOf line)
+  asked-call z = ap (callFrom z (bytesOf line)) (e ∙ line-asks line fits) ∙ frame-call (bytesOf line) z
 
   asked-allowance : allowanceOf q ≡ allowance (bytesOf line)
   asked-allowance = ap allowanceOf (e ∙ line-asks line fits) ∙ frame-allowance (bytesOf line)
 
-  pub asked-narrow : Narrow q
+  pub asked-narrow : Narrow (bytesOf line) q
   asked-narrow = rw (e ∙ line-asks line fits) (frame-narrow (bytesOf line) (λ i. two-small line i fits))
 
   -- what an entry hands back of the request's call is what the line's call gives
-  pub asked-made : (z : Sizes) (s : State) (d : Device) {n : ℕ} {h : Handed} → n ≡ length (lentBuffer (callFrom z (drop 7 (bytesOf line)) q))
-      → h ≡ seen (handed s (call (allowanceOf q) (callFrom z (drop 7 (bytesOf line)) q) (viewOf s) d))
+  pub asked-made : (z : Sizes) (s : State) (d : Device) {n : ℕ} {h : Handed} → n ≡ length (lentBuffer (callFrom z (bytesOf line) q))
+      → h ≡ seen (handed s (call (allowanceOf q) (callFrom z (bytesOf line) q) (viewOf s) d))
       → (h ≡ seen (handed s (call (allowance (bytesOf line)) (callOf z (bytesOf line)) (viewOf s) d))) × (n ≡ length (lentBuffer (callOf z (bytesOf line))))
   asked-made z s d l m = (m ∙ rw (asked-call z, asked-allowance), l ∙ rw (asked-call z))

@@ -1,4 +1,5 @@
 // The call that a line asks for, made on the parts of the program's arrays that hold chip and disk.
+use frame::Data;
 use frame::Request;
 use model::Sizes;
 use outcome::Outcome;
@@ -54,23 +55,24 @@ fn read_call(
     }
 }
 
-// A write of the bytes behind the line's fields, read from its digits into a buffer as long as they are.
+// A write of the bytes from byte `at` of the line's frame on, read from its digits into a buffer as long as they are.
 fn write_bytes(
     s: State,
     allowance: usize,
     bucket: usize,
     offset: usize,
     line: &[u8],
+    at: usize,
     bytes: &mut [u8],
     flash: &mut [u8],
     spare: &mut [u8],
     disk: &mut [u8],
 ) -> Outcome
     requires { ⌜ (bucket < 65536) × (lineFits (now line) ≡ true) ⌝ }
-    requires { ⌜ length (now bytes) ≡ length (drop 7 (bytesOf (now line))) ⌝ }
-    ensures { λ r. ⌜ handedBack (device (now (flash .exit)) (now (spare .exit)) (now (disk .exit))) [] r ≡ handed s (call allowance (writeCall bucket offset (drop 7 (bytesOf (now (line .entry))))) (viewOf s) (device (now (flash .entry)) (now (spare .entry)) (now (disk .entry)))) ⌝ }
+    requires { ⌜ length (now bytes) ≡ length (drop at (bytesOf (now line))) ⌝ }
+    ensures { λ r. ⌜ handedBack (device (now (flash .exit)) (now (spare .exit)) (now (disk .exit))) [] r ≡ handed s (call allowance (writeCall bucket offset (drop at (bytesOf (now (line .entry))))) (viewOf s) (device (now (flash .entry)) (now (spare .entry)) (now (disk .entry)))) ⌝ }
 {
-    frame::write_data(line, bytes);
+    frame::write_data(line, at, bytes);
     let back = bucket as u16;
     write::write(s, back, offset, bytes, allowance, flash, spare, disk)
 }
@@ -81,22 +83,24 @@ fn write_call(
     bucket: usize,
     offset: usize,
     line: &[u8],
+    placed: Data,
     buffer: &mut [u8],
     flash: &mut [u8],
     spare: &mut [u8],
     disk: &mut [u8],
 ) -> Outcome
     requires { ⌜ (bucket < 65536) × (lineFits (now line) ≡ true) × (65535 ≤ length (now buffer)) ⌝ }
-    ensures { λ r. ⌜ handedBack (device (now (flash .exit)) (now (spare .exit)) (now (disk .exit))) [] r ≡ handed s (call allowance (writeCall bucket offset (drop 7 (bytesOf (now (line .entry))))) (viewOf s) (device (now (flash .entry)) (now (spare .entry)) (now (disk .entry)))) ⌝ }
+    requires { ⌜ placed .length ≡ length (drop (placed .at) (bytesOf (now line))) ⌝ }
+    ensures { λ r. ⌜ handedBack (device (now (flash .exit)) (now (spare .exit)) (now (disk .exit))) [] r ≡ handed s (call allowance (writeCall bucket offset (drop (placed .at) (bytesOf (now (line .entry))))) (viewOf s) (device (now (flash .entry)) (now (spare .entry)) (now (disk .entry)))) ⌝ }
 {
-    let size = frame::data_length(line);
-    let bytes = &mut buffer[..size];
+    let bytes = &mut buffer[..placed.length];
     write_bytes(
         s,
         allowance,
         bucket,
         offset,
         line,
+        placed.at,
         bytes,
         flash,
         spare,
@@ -147,6 +151,7 @@ fn make(
             allowance,
             bucket,
             offset,
+            data,
         } => {
             unread(write_call(
                 s,
@@ -154,6 +159,7 @@ fn make(
                 bucket,
                 offset,
                 line,
+                data,
                 buffer,
                 flash,
                 spare,

@@ -13,9 +13,9 @@ fn digit_value(c: u8) -> u8
     ensures { λ r. ⌜ r ≡ digitValue c ⌝ }
 {
     match c {
-        48..=57 => c - 48,
-        65..=70 => c - 55,
-        97..=102 => c - 87,
+        b'0'..=b'9' => c - b'0',
+        b'A'..=b'F' => c - b'A' + 10,
+        b'a'..=b'f' => c - b'a' + 10,
         _ => 16,
     }
 }
@@ -29,9 +29,9 @@ fn between(low: u8, high: u8, c: u8) -> bool
 fn is_digit(c: u8) -> bool
     ensures { λ r. ⌜ r ≡ isDigit c ⌝ }
 {
-    let number = between(48, 57, c);
-    let capital = between(65, 70, c);
-    number | capital | between(97, 102, c)
+    let number = between(b'0', b'9', c);
+    let capital = between(b'A', b'F', c);
+    number | capital | between(b'a', b'f', c)
 }
 
 // All are tested, with no way out at the first that is none: such a loop takes many at a time.

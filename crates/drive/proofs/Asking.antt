@@ -89,7 +89,7 @@ module _ (r : Recorder) (line : List ℕ) where
   line-unmade Bad e = λ _. bad-line r line (asked-bad line e)
   line-unmade (Format n z) e = format-unmade n z e
   line-unmade (Read n b off len) e = call-unmade (Read n b off len) e refl refl
-  line-unmade (Write n b off) e = call-unmade (Write n b off) e refl refl
+  line-unmade (Write n b off placed) e = call-unmade (Write n b off placed) e refl refl
   line-unmade (Erase n) e = call-unmade (Erase n) e refl refl
   line-unmade (Drain n) e = call-unmade (Drain n) e refl refl
   line-unmade (Recover n) e = call-unmade (Recover n) e refl refl
@@ -99,7 +99,7 @@ module _ (r : Recorder) (line : List ℕ) where
   line-made Bad e = λ k. absurd (omega (arith, k))
   line-made (Format n z) e = format-made n z e
   line-made (Read n b off len) e = call-made (Read n b off len) e refl refl
-  line-made (Write n b off) e = call-made (Write n b off) e refl refl
+  line-made (Write n b off placed) e = call-made (Write n b off placed) e refl refl
   line-made (Erase n) e = call-made (Erase n) e refl refl
   line-made (Drain n) e = call-made (Drain n) e refl refl
   line-made (Recover n) e = call-made (Recover n) e refl refl

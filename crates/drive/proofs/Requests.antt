@@ -53,7 +53,7 @@ unfolding unmade sizesAsked isFormat
 other-request t kept Bad h = absurd (miss (2 ∷ 3 ∷ 4 ∷ 5 ∷ 6 ∷ []) 0 tt h)
 other-request t kept (Format n z) h = absurd (miss (2 ∷ 3 ∷ 4 ∷ 5 ∷ 6 ∷ []) 1 tt h)
 other-request t kept (Read n b off len) h = (refl, refl, refl)
-other-request t kept (Write n b off) h = (refl, refl, refl)
+other-request t kept (Write n b off placed) h = (refl, refl, refl)
 other-request t kept (Erase n) h = (refl, refl, refl)
 other-request t kept (Drain n) h = (refl, refl, refl)
 other-request t kept (Recover n) h = (refl, refl, refl)

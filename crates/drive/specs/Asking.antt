@@ -17,7 +17,7 @@ unfoldable pub unmade : (formatted : Bool) → Request → ℕ
 unmade t Bad = 0xF0
 unmade t (Format n z) = formatUnmade z
 unmade t (Read n b off len) = if t then 0 else 3
-unmade t (Write n b off) = if t then 0 else 3
+unmade t (Write n b off placed) = if t then 0 else 3
 unmade t (Erase n) = if t then 0 else 3
 unmade t (Drain n) = if t then 0 else 3
 unmade t (Recover n) = if t then 0 else 3
@@ -27,7 +27,7 @@ unfoldable pub sizesAsked : Request → Sizes → Sizes
 sizesAsked Bad kept = kept
 sizesAsked (Format n z) kept = z
 sizesAsked (Read n b off len) kept = kept
-sizesAsked (Write n b off) kept = kept
+sizesAsked (Write n b off placed) kept = kept
 sizesAsked (Erase n) kept = kept
 sizesAsked (Drain n) kept = kept
 sizesAsked (Recover n) kept = kept

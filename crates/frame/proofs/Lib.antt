@@ -1,4 +1,3 @@
-pub mod Head
 pub mod Fits
 pub mod Asked
 pub mod Meaning

@@ -7,28 +7,27 @@ use lib.ListN.{drop, replicate}
 use lib.Dec.{eqb}
 use Rattle.lists.specs.Lists.{if_then_else_}
 use Rattle.model.specs.declared.Sizes.{Sizes}
-use Rattle.model.specs.Spare.{two}
 use Rattle.model.specs.Calls.{Call, formatCall, readCall, writeCall, eraseCall, drainCall, recoverCall}
-use Rattle.model.specs.Driving.{bytesOf, operation, allowance, formatSizes, lineFits, callOf}
+use Rattle.model.specs.Driving.{bytesOf, operation, allowance, lineFits, callOf}
 use Rattle.frame.specs.declared.Request.{Request}
 use Rattle.frame.specs.declared.Request.the-variants.{Bad, Format, Read, Write, Erase, Drain, Recover}
-use Rattle.frame.specs.Request.{readFrom, writeFrom, frameRequest, requestOf, isFormat}
+use Rattle.frame.specs.Request.{formatFrom, readFrom, writeFrom, bareFrom, frameRequest, requestOf, isFormat}
 
--- the call, at the sizes of the last Done format, with a write's data; of no meaning where the line is bad
+-- the call, at the sizes of the last Done format, of a frame with a write's data; of no meaning where the line is bad
 unfoldable pub callFrom : Sizes → List ℕ → Request → Call
-callFrom z bytes Bad = recoverCall z
-callFrom z bytes (Format n sizes) = formatCall sizes
-callFrom z bytes (Read n b off len) = readCall b off (replicate len 0)
-callFrom z bytes (Write n b off) = writeCall b off bytes
-callFrom z bytes (Erase n) = eraseCall
-callFrom z bytes (Drain n) = drainCall
-callFrom z bytes (Recover n) = recoverCall z
+callFrom z f Bad = recoverCall z
+callFrom z f (Format n sizes) = formatCall sizes
+callFrom z f (Read n b off len) = readCall b off (replicate len 0)
+callFrom z f (Write n b off placed) = writeCall b off (drop (placed .at) f)
+callFrom z f (Erase n) = eraseCall
+callFrom z f (Drain n) = drainCall
+callFrom z f (Recover n) = recoverCall z
 
 unfoldable pub allowanceOf : Request → ℕ
 allowanceOf Bad = 0
 allowanceOf (Format n sizes) = n
 allowanceOf (Read n b off len) = n
-allowanceOf (Write n b off) = n
+allowanceOf (Write n b off placed) = n
 allowanceOf (Erase n) = n
 allowanceOf (Drain n) = n
 allowanceOf (Recover n) = n
@@ -37,7 +36,7 @@ unfoldable pub isBad : Request → Bool
 isBad Bad = true
 isBad (Format n sizes) = false
 isBad (Read n b off len) = false
-isBad (Write n b off) = false
+isBad (Write n b off placed) = false
 isBad (Erase n) = false
 isBad (Drain n) = false
 isBad (Recover n) = false
@@ -77,29 +76,29 @@ module _ (f : List ℕ) where
   each : {B : Type 0} (g : Request → B)
       → g (frameRequest f)
       ≡ chosen (is 1) (is 2) (is 3) (is 4) (is 5)
-      (g (Format (allowance f) (formatSizes f)))
-      (g (Read (allowance f) (two f 3) (two f 5) (two f 7)))
-      (g (Write (allowance f) (two f 3) (two f 5)))
+      (g (formatFrom (allowance f) f))
+      (g (readFrom (allowance f) f))
+      (g (writeFrom (allowance f) f))
       (g (Erase (allowance f)))
       (g (Drain (allowance f)))
       (g (Recover (allowance f)))
-  unfolding frameRequest readFrom writeFrom
+  unfolding frameRequest bareFrom
   each g = through g (is 1) (is 2) (is 3) (is 4) (is 5) _ _ _ _ _ _
 
-  pub frame-call : (z : Sizes) → callFrom z (drop 7 f) (frameRequest f) ≡ callOf z f
-  unfolding callFrom callOf
-  frame-call z = each (callFrom z (drop 7 f))
+  pub frame-call : (z : Sizes) → callFrom z f (frameRequest f) ≡ callOf z f
+  unfolding callFrom callOf formatFrom readFrom writeFrom
+  frame-call z = each (callFrom z f)
 
   pub frame-allowance : allowanceOf (frameRequest f) ≡ allowance f
-  unfolding allowanceOf
+  unfolding allowanceOf formatFrom readFrom writeFrom
   frame-allowance = each allowanceOf ∙ alike (is 1) (is 2) (is 3) (is 4) (is 5) (allowance f)
 
   pub frame-format : isFormat (frameRequest f) ≡ eqb (operation f) 1
-  unfolding isFormat
+  unfolding isFormat formatFrom readFrom writeFrom
   frame-format = each isFormat ∙ first (is 1) (is 2) (is 3) (is 4) (is 5)
 
   frame-good : isBad (frameRequest f) ≡ false
-  unfolding isBad
+  unfolding isBad formatFrom readFrom writeFrom
   frame-good = each isBad ∙ alike (is 1) (is 2) (is 3) (is 4) (is 5) false
 
 -- a line is bad where the definitions print F0

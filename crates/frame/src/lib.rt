@@ -1,16 +1,40 @@
-// What a line of the driving program asks for. It is one frame of bytes, walked three fields at a time.
+// What a line of the driving program asks for. It is one frame of bytes, walked from field to field.
+use line::Line;
+use model::Sizes;
 ghost use mathlib.Core.Path.{_≡_};
 ghost use mathlib.Core.Bool.{true};
 ghost use lib.ListN.{length, drop};
-ghost use Rattle.model.specs.Driving.{bytesOf, frameFits, lineFits, formatSizes};
-ghost use Rattle.frame.specs.Request.{readFrom, writeFrom, frameRequest, requestOf};
+ghost use Rattle.model.specs.Driving.{bytesOf, operation, frameFits, lineFits};
+ghost use Rattle.frame.specs.Request.{formatFrom, readFrom, writeFrom, bareFrom, frameRequest, requestOf};
+
+// The digits of the longest line.
+const LONGEST: usize = 512;
+
+// The operation bytes.
+const FORMAT: usize = 1;
+
+const READ: usize = 2;
+
+const WRITE: usize = 3;
+
+const ERASE_STEP: usize = 4;
+
+const DRAIN: usize = 5;
+
+const RECOVER: usize = 6;
+
+// The data of a write: the byte of the frame where they begin, and how many they are.
+pub struct Data {
+    pub at: usize,
+    pub length: usize,
+}
 
 // What a line asks for, with its allowance of stores. Bad is the paper's F0.
 pub enum Request {
     Bad,
     Format {
         allowance: usize,
-        sizes: model::Sizes,
+        sizes: Sizes,
     },
     Read {
         allowance: usize,
@@ -22,6 +46,7 @@ pub enum Request {
         allowance: usize,
         bucket: usize,
         offset: usize,
+        data: Data,
     },
     Erase(usize),
     Drain(usize),
@@ -29,90 +54,117 @@ pub enum Request {
 }
 
 // "S (2) P (1) C (2) B (2) R (1) W (1)"
-fn format_sizes(line: &[u8]) -> model::Sizes
-    ensures { λ r. ⌜ r ≡ formatSizes (bytesOf (now (line .entry))) ⌝ }
+fn format_request<'a>(allowance: Line<'a>) -> Request
+    requires { ⌜ allowance .at ≡ 3 ⌝ }
+    ensures { λ r. ⌜ r ≡ formatFrom (allowance .entry .field) (bytesOf (now (allowance .entry .text))) ⌝ }
 {
-    let chip = line::three_from(line, 3, 2, 1, 2);
-    let rest = line::three_from(line, 8, 2, 1, 1);
-    model::Sizes {
-        s: chip.first,
-        p: chip.second,
-        c: chip.third,
-        b: rest.first,
-        r: rest.second,
-        w: rest.third,
+    let s = line::next(allowance, 2);
+    let p = line::next(s, 1);
+    let c = line::next(p, 2);
+    let b = line::next(c, 2);
+    let r = line::next(b, 1);
+    let w = line::next(r, 1);
+    Request::Format {
+        allowance: allowance.field,
+        sizes: Sizes {
+            s: s.field,
+            p: p.field,
+            c: c.field,
+            b: b.field,
+            r: r.field,
+            w: w.field,
+        },
     }
 }
 
 // "bucket (2) offset (2) length (2)"
-fn read_request(line: &[u8], allowance: usize) -> Request
-    ensures { λ r. ⌜ r ≡ readFrom allowance (bytesOf (now (line .entry))) ⌝ }
+fn read_request<'a>(allowance: Line<'a>) -> Request
+    requires { ⌜ allowance .at ≡ 3 ⌝ }
+    ensures { λ r. ⌜ r ≡ readFrom (allowance .entry .field) (bytesOf (now (allowance .entry .text))) ⌝ }
 {
-    let fields = line::three_from(line, 3, 2, 2, 2);
+    let bucket = line::next(allowance, 2);
+    let offset = line::next(bucket, 2);
+    let length = line::next(offset, 2);
     Request::Read {
-        allowance: allowance,
-        bucket: fields.first,
-        offset: fields.second,
-        length: fields.third,
+        allowance: allowance.field,
+        bucket: bucket.field,
+        offset: offset.field,
+        length: length.field,
     }
 }
 
-// "bucket, offset, data"
-fn write_request(line: &[u8], allowance: usize) -> Request
-    ensures { λ r. ⌜ r ≡ writeFrom allowance (bytesOf (now (line .entry))) ⌝ }
+// "bucket, offset, data": the data are what is left.
+fn write_request<'a>(allowance: Line<'a>) -> Request
+    requires { ⌜ allowance .at ≡ 3 ⌝ }
+    ensures { λ r. ⌜ r ≡ writeFrom (allowance .entry .field) (bytesOf (now (allowance .entry .text))) ⌝ }
 {
-    let fields = line::three_from(line, 3, 2, 2, 2);
+    let bucket = line::next(allowance, 2);
+    let offset = line::next(bucket, 2);
+    let length = line::left(offset);
     Request::Write {
-        allowance: allowance,
-        bucket: fields.first,
-        offset: fields.second,
+        allowance: allowance.field,
+        bucket: bucket.field,
+        offset: offset.field,
+        data: Data {
+            at: offset.at,
+            length,
+        },
     }
 }
 
-// The request of a frame that fits: "operation byte, allowance (2), fields".
-fn frame_request(line: &[u8]) -> Request
-    ensures { λ r. ⌜ r ≡ frameRequest (bytesOf (now (line .entry))) ⌝ }
+// An operation without fields.
+fn bare_request(operation: usize, allowance: usize) -> Request
+    ensures { λ r. ⌜ r ≡ bareFrom operation allowance ⌝ }
 {
-    let head = line::three_from(line, 0, 1, 2, 2);
-    let operation = head.first;
-    let allowance = head.second;
     match operation {
-        1 => {
-            let sizes = format_sizes(line);
-            Request::Format {
-                allowance: allowance,
-                sizes: sizes,
-            }
-        }
-        2 => read_request(line, allowance),
-        3 => write_request(line, allowance),
-        4 => Request::Erase(allowance),
-        5 => Request::Drain(allowance),
+        ERASE_STEP => Request::Erase(allowance),
+        DRAIN => Request::Drain(allowance),
         _ => Request::Recover(allowance),
     }
 }
 
-// A known operation with fields of the right length.
+// The request of a frame that fits: "operation byte, allowance (2), fields".
+fn frame_request(text: &[u8]) -> Request
+    ensures { λ r. ⌜ r ≡ frameRequest (bytesOf (now (text .entry))) ⌝ }
+{
+    let operation = line::next(line::start(text), 1);
+    let allowance = line::next(operation, 2);
+    match operation.field {
+        FORMAT => format_request(allowance),
+        READ => read_request(allowance),
+        WRITE => write_request(allowance),
+        _ => bare_request(operation.field, allowance.field),
+    }
+}
+
+// The byte a frame begins with.
+fn frame_operation(text: &[u8]) -> usize
+    ensures { λ r. ⌜ r ≡ operation (bytesOf (now (text .entry))) ⌝ }
+{
+    let operation = line::next(line::start(text), 1);
+    operation.field
+}
+
+// A known operation with fields of the right length, behind 3 bytes of operation and allowance.
 fn frame_fits(line: &[u8]) -> bool
     ensures { λ r. ⌜ r ≡ frameFits (bytesOf (now (line .entry))) ⌝ }
 {
     let bytes = line.len() / 2;
-    let head = line::three_from(line, 0, 1, 2, 2);
-    let operation = head.first;
+    let operation = frame_operation(line);
     match operation {
-        1 => bytes == 12,
-        2 => bytes == 9,
-        3 => 7 <= bytes,
-        4..=6 => bytes == 3,
+        FORMAT => bytes == 12,
+        READ => bytes == 9,
+        WRITE => 7 <= bytes,
+        ERASE_STEP..=RECOVER => bytes == 3,
         _ => false,
     }
 }
 
-// Whether the line is none of the paper's F0. A line of over 512 digits is not looked at.
+// Whether the line is none of the paper's F0. A line that is too long is not looked at.
 pub fn line_fits(line: &[u8]) -> bool
     ensures { λ r. ⌜ r ≡ lineFits (now (line .entry)) ⌝ }
 {
-    if 512 < line.len() {
+    if LONGEST < line.len() {
         return false;
     }
     digits::all_digits(line) & (line.len() % 2 == 0) & frame_fits(line)
@@ -128,19 +180,11 @@ pub fn request_of(line: &[u8]) -> Request
     }
 }
 
-// How many bytes of data a write has.
-pub fn data_length(line: &[u8]) -> usize
-    ensures { λ r. ⌜ r ≡ length (drop 7 (bytesOf (now (line .entry)))) ⌝ }
-{
-    let bytes = line.len() / 2;
-    if 7 <= bytes { bytes - 7 } else { 0 }
-}
-
-// The data of a write: the bytes behind its fields.
-pub fn write_data(line: &[u8], out: &mut [u8])
+// The data of a write, from the byte of the frame where they begin.
+pub fn write_data(line: &[u8], at: usize, out: &mut [u8])
     requires { ⌜ lineFits (now line) ≡ true ⌝ }
-    requires { ⌜ length (now out) ≡ length (drop 7 (bytesOf (now line))) ⌝ }
-    ensures { λ _. ⌜ now (out .exit) ≡ drop 7 (bytesOf (now (line .entry))) ⌝ }
+    requires { ⌜ length (now out) ≡ length (drop at (bytesOf (now line))) ⌝ }
+    ensures { λ _. ⌜ now (out .exit) ≡ drop at (bytesOf (now (line .entry))) ⌝ }
 {
-    digits::decode(line, 7, out);
+    digits::decode(line, at, out);
 }

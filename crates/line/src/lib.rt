@@ -1,19 +1,26 @@
-// A line and a position in its frame of bytes. The borrow checker covers no function over a struct that holds a reference,
-// so those are few, thin and proved by hand; callers use `three_from`, whose parameters are plain.
+// A walk along a line's frame of bytes, from field to field. The borrow checker covers no function over a struct that holds a
+// reference, so these are few, thin and proved by hand.
 ghost use mathlib.Core.Path.{_≡_};
 ghost use Prim.Native.Nat.{_+_, _<_, _^_};
+ghost use lib.ListN.{length, drop};
 ghost use Rattle.model.specs.Driving.{bytesOf};
-ghost use Rattle.line.specs.Field.{fieldAt, threeAt};
+ghost use Rattle.line.specs.Field.{fieldAt, atStart, behind};
 
-struct Line<'a> {
-    text: &'a [u8],
-    at: usize,
+// The line, the byte of its frame where the walk stands, and the field that ends there.
+pub struct Line<'a> {
+    pub text: &'a [u8],
+    pub at: usize,
+    pub field: usize,
 }
 
-pub struct Three {
-    pub first: usize,
-    pub second: usize,
-    pub third: usize,
+pub fn start<'a>(text: &'a [u8]) -> Line<'a>
+    ensures { λ r. ⌜ r ≡ atStart (text .entry) ⌝ }
+{
+    Line {
+        text,
+        at: 0,
+        field: 0,
+    }
 }
 
 // The work: the field at a byte of the frame, one byte or two wide.
@@ -28,44 +35,30 @@ fn field_at(text: &[u8], at: usize, width: usize) -> usize
     }
 }
 
-fn line_at<'a>(text: &'a [u8], at: usize) -> Line<'a>
-    ensures { λ r. ⌜ (r .text ≡ text .entry) × (r .at ≡ at) ⌝ }
-{
-    Line { text, at }
-}
-
-// The struct is taken apart, and the function on the slice and the number is called.
-fn field<'a>(line: Line<'a>, width: usize) -> usize
-    ensures { λ r. ⌜ r ≡ fieldAt (bytesOf (now (line .entry .text))) (line .entry .at) width ⌝ }
-{
-    field_at(line.text, line.at, width)
-}
-
-// The line, behind a field.
-fn skip<'a>(line: Line<'a>, width: usize) -> Line<'a>
+// The walk goes on behind the next field, of so many bytes.
+pub fn next<'a>(line: Line<'a>, width: usize) -> Line<'a>
     requires { ⌜ line .at + width < 2 ^ 64 ⌝ }
-    ensures { λ r. ⌜ (r .text ≡ line .entry .text) × (r .at ≡ line .entry .at + width) ⌝ }
+    ensures { λ r. ⌜ r ≡ behind (line .entry) width ⌝ }
 {
+    let field = field_at(line.text, line.at, width);
     Line {
         text: line.text,
         at: line.at + width,
+        field,
     }
 }
 
-// Three fields that follow each other, of the widths a, b and c.
-pub fn three_from(text: &[u8], at: usize, a: usize, b: usize, c: usize) -> Three
-    requires { ⌜ at + a + b < 2 ^ 64 ⌝ }
-    ensures { λ r. ⌜ r ≡ threeAt (bytesOf (now (text .entry))) at a b c ⌝ }
+// The work: how many bytes stand from a byte of the frame on.
+fn left_at(text: &[u8], at: usize) -> usize
+    ensures { λ r. ⌜ r ≡ length (drop at (bytesOf (now (text .entry)))) ⌝ }
 {
-    let line = line_at(text, at);
-    let first = field(line, a);
-    let next = skip(line, a);
-    let second = field(next, b);
-    let last = skip(next, b);
-    let third = field(last, c);
-    Three {
-        first,
-        second,
-        third,
-    }
+    let bytes = text.len() / 2;
+    if at < bytes { bytes - at } else { 0 }
+}
+
+// How many bytes are left.
+pub fn left<'a>(line: Line<'a>) -> usize
+    ensures { λ r. ⌜ r ≡ length (drop (line .entry .at) (bytesOf (now (line .entry .text)))) ⌝ }
+{
+    left_at(line.text, line.at)
 }

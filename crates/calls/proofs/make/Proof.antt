@@ -43,7 +43,8 @@ enum-known-request-3 c = search needs
 
 write-call-requires : tie.Need-write-call-requires
 write-call-requires c κs = let start = c .before .before .before .before .before .before .before .before .before .before .before .before in
-    (asked-narrow (start .args .line .now) (start .pre .0 .0) (sym (c .before .before .before .before .before .request3 .given .1) ∙ start .pre .0 .1), start .pre .0 .0, start .pre .1)
+    let n = asked-narrow (start .args .line .now) (start .pre .0 .0) (sym (c .before .before .before .before .before .request3 .given .1) ∙ start .pre .0 .1) in
+    ((n .0, start .pre .0 .0, start .pre .1), n .1)
 
 unread-requires-3 : tie.Need-unread-requires-3
 unread-requires-3 c κs = search needs

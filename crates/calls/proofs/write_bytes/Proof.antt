@@ -25,7 +25,10 @@ same-length-4 : tie.Need-same-length-4
 same-length-4 c = search needs
 
 returns : tie.Need-returns
-returns c = rw (c .before .before .before .before .before .before .before .before .before .before .before .before .before .write-data .ensures) at (c .before .before .before .before .before .before .write .ensures)
+returns c =
+    let written = c .before .before .before .before .before .before in
+    let decoded = written .before .before .before .before .before .before .before in
+    rw (decoded .write-data .ensures) at (written .write .ensures)
 
 pub write-bytes-spec : {M : Type 1} → statement M
 write-bytes-spec =

@@ -6,17 +6,20 @@ use Rattle.calls.proofs.Asked.{data-short}
 use Rattle.calls.proofs.write_call.Statement.{statement}
 use Rattle.calls.proofs.write_call.Tie as tie
 
-data-length-requires : tie.Need-data-length-requires
-data-length-requires c κs = search needs
-
 slice-relend-prefix-bytes : tie.Need-slice-relend-prefix-bytes
-slice-relend-prefix-bytes c = let start = c .before .before .before .before .before .before in omega (arith, data-short (start .args .line .now) (start .pre .1), start .pre .2, c .data-length .ensures)
+slice-relend-prefix-bytes c =
+    let start = c .before .before .before .before .before in
+    omega (arith, data-short (start .args .line .now) (start .args .placed .at) (start .pre .0 .1), start .pre .0 .2, start .pre .1)
 
 slice-aggregate-bytes : tie.Need-slice-aggregate-bytes
-slice-aggregate-bytes c = let start = c .before .before .before .before .before .before .before in simp length-take (omega (arith, data-short (start .args .line .now) (start .pre .1), start .pre .2, c .before .data-length .ensures))
+slice-aggregate-bytes c =
+    let start = c .before .before .before .before .before .before in
+    simp length-take (omega (arith, data-short (start .args .line .now) (start .args .placed .at) (start .pre .0 .1), start .pre .0 .2, start .pre .1))
 
 write-bytes-requires : tie.Need-write-bytes-requires
-write-bytes-requires c κs = let start = c .before .before .before .before .before .before .before .before .before .before in ((start .pre .0, start .pre .1), simp length-take (omega (arith, data-short (start .args .line .now) (start .pre .1), start .pre .2, c .before .before .before .before .data-length .ensures)))
+write-bytes-requires c κs =
+    let start = c .before .before .before .before .before .before .before .before .before in
+    ((start .pre .0 .0, start .pre .0 .1), simp length-take (omega (arith, data-short (start .args .line .now) (start .args .placed .at) (start .pre .0 .1), start .pre .0 .2, start .pre .1)))
 
 same-length : tie.Need-same-length
 same-length c = search needs
@@ -37,7 +40,6 @@ pub write-call-spec : {M : Type 1} → statement M
 write-call-spec =
     tie.close
     (tie.spec
-    data-length-requires
     slice-relend-prefix-bytes
     slice-aggregate-bytes
     write-bytes-requires

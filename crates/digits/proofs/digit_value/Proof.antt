@@ -7,11 +7,11 @@ use Rattle.digits.proofs.Values.{below, above}
 use Rattle.digits.proofs.digit_value.Statement.{statement}
 use Rattle.digits.proofs.digit_value.Tie as tie
 
-sub-result : tie.Need-sub-result
-sub-result c = search needs
+add-result : tie.Need-add-result
+add-result c = search needs
 
-sub-result-2 : tie.Need-sub-result-2
-sub-result-2 c = search needs
+add-result-2 : tie.Need-add-result-2
+add-result-2 c = search needs
 
 returns : tie.Need-returns
 unfolding digitValue
@@ -23,13 +23,13 @@ returns-2 : tie.Need-returns-2
 unfolding digitValue
 returns-2 c =
     let n = c .before .before .before .before .args .c in
-    rw (above 48 57 n (omega arith), within-true 65 70 n (omega arith) (omega arith))
+    rw (above 48 57 n (omega arith), within-true 65 70 n (omega arith) (omega arith)) (omega arith)
 
 returns-3 : tie.Need-returns-3
 unfolding digitValue
 returns-3 c =
     let n = c .before .before .before .before .before .before .args .c in
-    rw (above 48 57 n (omega arith), above 65 70 n (omega arith), within-true 97 102 n (omega arith) (omega arith))
+    rw (above 48 57 n (omega arith), above 65 70 n (omega arith), within-true 97 102 n (omega arith) (omega arith)) (omega arith)
 
 returns-4 : tie.Need-returns-4
 unfolding digitValue
@@ -59,8 +59,8 @@ pub digit-value-spec : {M : Type 1} → statement M
 digit-value-spec =
     tie.close
     (tie.spec
-    sub-result
-    sub-result-2
+    add-result
+    add-result-2
     returns
     returns-2
     returns-3

@@ -11,7 +11,7 @@ use Rattle.frame.proofs.write_data.Statement.{statement}
 use Rattle.frame.proofs.write_data.Tie as tie
 
 decode-requires : tie.Need-decode-requires
-decode-requires c κs = (fits-digits (c .before .before .before .args .line .now) (c .before .before .before .pre .0), omega arith)
+decode-requires c κs = let given = c .before .before .before in (fits-digits (given .args .line .now) (given .pre .0), omega arith)
 
 same-length : tie.Need-same-length
 same-length c = search needs
@@ -19,8 +19,9 @@ same-length c = search needs
 returns : tie.Need-returns
 unfolding part
 returns c =
-    c .before .before .decode .ensures
-    ∙ take-all (length (c .before .before .before .before .before .before .args .out .now)) (drop 7 (bytesOf (c .before .before .before .before .before .before .args .line .now))) (omega (arith, c .before .before .before .before .before .before .pre .1))
+    let given = c .before .before .before .before .before .before in
+    let behind = drop (given .args .at) (bytesOf (given .args .line .now)) in
+    c .before .before .decode .ensures ∙ take-all (length (given .args .out .now)) behind (omega (arith, given .pre .1))
 
 pub write-data-spec : {M : Type 1} → statement M
 write-data-spec = tie.close (tie.spec decode-requires same-length returns)
