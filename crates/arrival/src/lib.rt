@@ -59,7 +59,7 @@ pub fn append_log(
     let target = Log {
         bucket,
         first,
-        kind: 2,
+        kind: model::WRITE,
         epoch,
         back: b,
         offset,
@@ -89,7 +89,18 @@ pub fn start_log(
     let pages = geometry::pages_for(z, bytes.len());
     let priority = (z.p - pages) as u8;
     let room = copying::room_of(s);
-    let left = copying::fresh_log(meter, z, room, 2, b, offset, bytes, flash, spare, disk);
+    let left = copying::fresh_log(
+        meter,
+        z,
+        room,
+        model::WRITE,
+        b,
+        offset,
+        bytes,
+        flash,
+        spare,
+        disk,
+    );
     let roomed = s.roomed();
     let arrived = roomed.take_write(b);
     let state = arrived.accept(b, priority);

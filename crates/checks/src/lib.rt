@@ -99,5 +99,5 @@ pub fn write_refusal(
     if number != 0 {
         return number;
     }
-    if s.next <= 4294967294 { 0 } else { 8 }
+    if s.next <= model::LAST_EPOCH { 0 } else { 8 }
 }

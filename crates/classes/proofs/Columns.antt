@@ -44,10 +44,10 @@ but-not false false b = refl
 
 module _ (z : Sizes) (d : Device) (t : ℕ → Bool) where
   -- of the back-end bucket b
-  abbrev pub isOf : ℕ → ℕ → Bool
-  isOf b c = t c && eqb (backOf z d c) b
+  abbrev pub standsFor : ℕ → ℕ → Bool
+  standsFor b c = t c && eqb (backOf z d c) b
 
-  pub named-is : (b c : ℕ) → b < nowhere → eqb b (named z d t c) ≡ isOf b c
+  pub named-is : (b c : ℕ) → b < nowhere → eqb b (named z d t c) ≡ standsFor b c
   named-is b c h = go (t c) (ℕ-discrete b (backOf z d c))
     where
       go : (u : Bool) → Dec (b ≡ backOf z d c) → eqb b (if u then backOf z d c else nowhere) ≡ (u && eqb (backOf z d c) b)
@@ -55,18 +55,18 @@ module _ (z : Sizes) (d : Device) (t : ℕ → Bool) where
       go true (no ne) = ne-eqb b (backOf z d c) ne ∙ sym (ne-eqb (backOf z d c) b (λ e. ne (sym e)))
       go false e = ne-eqb b nowhere (λ q. omega arith)
 
-  pub member-column : (b : ℕ) (l : List ℕ) → b < nowhere → member b (map (named z d t) l) ≡ any (isOf b) l
+  pub member-column : (b : ℕ) (l : List ℕ) → b < nowhere → member b (map (named z d t) l) ≡ any (standsFor b) l
   unfolding member any
   member-column b [] h = refl
   member-column b (c ∷ l) h = rw (named-is b c h, member-column b l h)
 
-  pub times-column : (b : ℕ) (l : List ℕ) → b < nowhere → times b (map (named z d t) l) ≡ length (keep (isOf b) l)
+  pub times-column : (b : ℕ) (l : List ℕ) → b < nowhere → times b (map (named z d t) l) ≡ length (keep (standsFor b) l)
   unfolding times keep
   times-column b [] h = refl
-  times-column b (c ∷ l) h = rw (named-is b c h) (go (isOf b c) (times-column b l h))
+  times-column b (c ∷ l) h = rw (named-is b c h) (go (standsFor b c) (times-column b l h))
     where
-      go : (u : Bool) → times b (map (named z d t) l) ≡ length (keep (isOf b) l)
-          → (if u then times b (map (named z d t) l) + 1 else times b (map (named z d t) l)) ≡ length (if u then c ∷ keep (isOf b) l else keep (isOf b) l)
+      go : (u : Bool) → times b (map (named z d t) l) ≡ length (keep (standsFor b) l)
+          → (if u then times b (map (named z d t) l) + 1 else times b (map (named z d t) l)) ≡ length (if u then c ∷ keep (standsFor b) l else keep (standsFor b) l)
       go true r = omega (arith, r)
       go false r = r
 

@@ -104,7 +104,7 @@ fn write_large(
 }
 
 // A bucket of at most 2,048 bytes is gathered in an array of that size: there is less to clear.
-fn write_units(
+fn write_drained(
     meter: Meter,
     s: State,
     backs: &[u16],
@@ -143,7 +143,7 @@ pub fn drain_queues(
     let backs = work.backs;
     let count = work.count;
     let state = work.state;
-    let left = write_units(meter, s, &backs[..count], flash, spare, disk);
+    let left = write_drained(meter, s, &backs[..count], flash, spare, disk);
     Turn { meter: left, state }
 }
 

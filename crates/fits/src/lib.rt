@@ -72,7 +72,10 @@ fn numbers_fit(s: State, spare: &[u8]) -> bool
     ensures { λ r. ⌜ r ≡ numbersFit (placesOf s) (spareOnly (now (spare .entry))) ⌝ }
 {
     let top = top_epoch(s.sizes, spare);
-    (s.accepted <= 15) & (1 <= s.next) & (top < s.next) & (s.next <= 4294967296)
+    (s.accepted <= model::LAST_COUNT)
+        & (1 <= s.next)
+        & (top < s.next)
+        & (s.next <= model::EPOCHS_END)
 }
 
 fn epoch_there(z: Sizes, c: usize, spare: &[u8]) -> u32

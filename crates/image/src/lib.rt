@@ -11,14 +11,14 @@ ghost use Rattle.model.specs.Image.{bucketFits, used, epochOf, backOf, isWrite,
 ghost use Rattle.spare.specs.Fields.{seen};
 ghost use Rattle.image.specs.Chip.{Chip, spareOnly};
 
-// A look at page k of the bucket c.
-pub fn look(z: Sizes, c: usize, k: usize, spare: &[u8]) -> Seen
+// What page k of the bucket c is.
+pub fn page_seen(z: Sizes, c: usize, k: usize, spare: &[u8]) -> Seen
     requires { ⌜ Chip z (now spare) ⌝ }
     requires { ⌜ c < z .c ⌝ }
     requires { ⌜ k < z .p ⌝ }
     ensures { λ r. ⌜ r ≡ seen (tagOf z (spareOnly (now (spare .entry))) c k) ⌝ }
 {
-    spare::look_at(spare, c * z.p + k)
+    spare::seen_at(spare, c * z.p + k)
 }
 
 // In a bucket that fits a page is blank if it has no kind.
@@ -28,7 +28,7 @@ pub fn used(z: Sizes, c: usize, spare: &[u8]) -> bool
     requires { ⌜ bucketFits z (spareOnly (now spare)) c ≡ true ⌝ }
     ensures { λ r. ⌜ r ≡ used z (spareOnly (now (spare .entry))) c ⌝ }
 {
-    spare::kind_at(spare, c * z.p) != 255
+    spare::kind_at(spare, c * z.p) != spare::NO_KIND
 }
 
 pub fn epoch_of(z: Sizes, c: usize, spare: &[u8]) -> u32
@@ -37,7 +37,7 @@ pub fn epoch_of(z: Sizes, c: usize, spare: &[u8]) -> u32
     ensures { λ r. ⌜ r ≡ epochOf z (spareOnly (now (spare .entry))) c ⌝ }
 {
     let epoch = spare::epoch_at(spare, c * z.p);
-    if epoch != 4294967295 {
+    if epoch != spare::NO_EPOCH {
         return epoch;
     }
     if page_blank(z, c, 0, spare) { 0 } else { epoch }
@@ -66,7 +66,7 @@ pub fn is_write(z: Sizes, c: usize, spare: &[u8]) -> bool
     requires { ⌜ c < z .c ⌝ }
     ensures { λ r. ⌜ r ≡ isWrite z (spareOnly (now (spare .entry))) c ⌝ }
 {
-    spare::kind_at(spare, c * z.p) == 2
+    spare::kind_at(spare, c * z.p) == model::WRITE
 }
 
 pub fn is_copy(z: Sizes, c: usize, spare: &[u8]) -> bool
@@ -76,7 +76,7 @@ pub fn is_copy(z: Sizes, c: usize, spare: &[u8]) -> bool
     ensures { λ r. ⌜ r ≡ isCopy z (spareOnly (now (spare .entry))) c ⌝ }
 {
     let kind = spare::kind_at(spare, c * z.p);
-    (kind != 255) & (kind != 2)
+    (kind != spare::NO_KIND) & (kind != model::WRITE)
 }
 
 pub fn is_dirty(z: Sizes, c: usize, spare: &[u8]) -> bool
@@ -84,7 +84,7 @@ pub fn is_dirty(z: Sizes, c: usize, spare: &[u8]) -> bool
     requires { ⌜ c < z .c ⌝ }
     ensures { λ r. ⌜ r ≡ isDirty z (spareOnly (now (spare .entry))) c ⌝ }
 {
-    spare::kind_at(spare, c * z.p) == 3
+    spare::kind_at(spare, c * z.p) == model::DIRTY
 }
 
 pub fn page_blank(z: Sizes, c: usize, k: usize, spare: &[u8]) -> bool
@@ -93,7 +93,7 @@ pub fn page_blank(z: Sizes, c: usize, k: usize, spare: &[u8]) -> bool
     requires { ⌜ k < z .p ⌝ }
     ensures { λ r. ⌜ r ≡ pageBlank z (spareOnly (now (spare .entry))) c k ⌝ }
 {
-    let page = look(z, c, k, spare);
+    let page = page_seen(z, c, k, spare);
     match page {
         Seen::Blank => true,
         Seen::Programmed(_) => false,

@@ -77,7 +77,7 @@ fn lay_page(
     if !image::ends_log(z, c, k, spare) {
         return;
     }
-    let page = image::look(z, c, k, spare);
+    let page = image::page_seen(z, c, k, spare);
     let Seen::Programmed(f) = page else {
         return;
     };

@@ -1,5 +1,21 @@
 // The plain data that the code and the definitions share.
 
+// The state of a page, its spare byte 0.
+pub const READ: u8 = 1;
+
+pub const WRITE: u8 = 2;
+
+pub const DIRTY: u8 = 3;
+
+// The last next epoch at which a write is taken; behind it fewer than two are left.
+pub const LAST_EPOCH: u64 = 4294967294;
+
+// The next epoch once none is left.
+pub const EPOCHS_END: u64 = 4294967296;
+
+// The highest count of accepted writes: the next halves all priorities.
+pub const LAST_COUNT: u8 = 15;
+
 // Document 01's S, P, C, B, R and W.
 pub struct Sizes {
     pub s: usize,

@@ -12,27 +12,27 @@ use Rattle.lists.specs.Lists.{if_then_else_, any, member, distinct}
 use Rattle.lists.proofs.Arrays.{rest-more}
 use Rattle.model.specs.declared.Entry.{Entry}
 use Rattle.model.specs.State.{isOf, holds, cacheOf, backBucket, backs}
-use Rattle.queue.specs.View.{noEntry, placeOf}
+use Rattle.queue.specs.View.{noEntry, indexOf}
 
-pub holds-place : (b : ℕ) (l : List Entry) → holds b l ≡ ltb (placeOf b l) (length l)
-unfolding holds placeOf
-holds-place b [] = refl
-holds-place b (e ∷ l) = at (isOf b e) (holds-place b l)
+pub holds-index : (b : ℕ) (l : List Entry) → holds b l ≡ ltb (indexOf b l) (length l)
+unfolding holds indexOf
+holds-index b [] = refl
+holds-index b (e ∷ l) = at (isOf b e) (holds-index b l)
   where
-    at : (t : Bool) → holds b l ≡ ltb (placeOf b l) (length l)
-        → (if t then true else holds b l) ≡ ltb (if t then 0 else placeOf b l + 1) (suc (length l))
+    at : (t : Bool) → holds b l ≡ ltb (indexOf b l) (length l)
+        → (if t then true else holds b l) ≡ ltb (if t then 0 else indexOf b l + 1) (suc (length l))
     at true h = sym (lt-ltb 0 (suc (length l)) (omega arith))
-    at false h = rw (add-one (placeOf b l)) (h ∙ sym (leb·suc-suc (suc (placeOf b l)) (length l)))
+    at false h = rw (add-one (indexOf b l)) (h ∙ sym (leb·suc-suc (suc (indexOf b l)) (length l)))
 
-pub cache-place : (b : ℕ) (l : List Entry) → cacheOf b l ≡ getD l (placeOf b l) noEntry .cache
-unfolding cacheOf placeOf
-cache-place b [] = refl
-cache-place b (e ∷ l) = at (isOf b e) (cache-place b l)
+pub cache-index : (b : ℕ) (l : List Entry) → cacheOf b l ≡ getD l (indexOf b l) noEntry .cache
+unfolding cacheOf indexOf
+cache-index b [] = refl
+cache-index b (e ∷ l) = at (isOf b e) (cache-index b l)
   where
-    at : (t : Bool) → cacheOf b l ≡ getD l (placeOf b l) noEntry .cache
-        → (if t then e .cache else cacheOf b l) ≡ getD (e ∷ l) (if t then 0 else placeOf b l + 1) noEntry .cache
+    at : (t : Bool) → cacheOf b l ≡ getD l (indexOf b l) noEntry .cache
+        → (if t then e .cache else cacheOf b l) ≡ getD (e ∷ l) (if t then 0 else indexOf b l + 1) noEntry .cache
     at true h = refl
-    at false h = rw (add-one (placeOf b l)) h
+    at false h = rw (add-one (indexOf b l)) h
 
 eqb-sym : (m n : ℕ) (t : Bool) → eqb m n ≡ t → eqb n m ≡ t
 eqb-sym m n true e = eq-eqb n m (sym (eqb-true m n e))

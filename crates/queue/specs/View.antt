@@ -20,6 +20,6 @@ abbrev pub queueOf : List Entry → Queue
 queueOf l = record { items = padded 64 noEntry l; len = length l }
 
 -- where the first entry of b stands; the list's length, if there is none
-unfoldable pub placeOf : ℕ → List Entry → ℕ
-placeOf b [] = 0
-placeOf b (e ∷ l) = if isOf b e then 0 else placeOf b l + 1
+unfoldable pub indexOf : ℕ → List Entry → ℕ
+indexOf b [] = 0
+indexOf b (e ∷ l) = if isOf b e then 0 else indexOf b l + 1

@@ -12,7 +12,7 @@ ghost use Rattle.lists.specs.Arrays.{joined, padded};
 ghost use Rattle.fifo.specs.View.{listOf};
 ghost use Rattle.model.specs.State.{entry, holds, cacheOf, without, caches, backs};
 ghost use Rattle.model.specs.Operations.{halved, prioritised};
-ghost use Rattle.queue.specs.View.{entriesOf, noEntry, queueOf, placeOf};
+ghost use Rattle.queue.specs.View.{entriesOf, noEntry, queueOf, indexOf};
 
 pub struct Queue {
     pub items: [Entry; 64],
@@ -124,7 +124,7 @@ impl Queue {
     {
         let n = self.used();
         let items = self.items;
-        let i = place(items, 0, n, b);
+        let i = index_of(items, 0, n, b);
         i < n
     }
 
@@ -134,7 +134,7 @@ impl Queue {
     {
         let n = self.used();
         let items = self.items;
-        let i = place(items, 0, n, b);
+        let i = index_of(items, 0, n, b);
         if n <= i {
             return Found {
                 held: false,
@@ -227,9 +227,9 @@ fn copied(into: [Entry; 64], from: [Entry; 64], start: usize, n: usize) -> [Entr
 }
 
 // Where b stands first among those from `start` up to n, or n.
-fn place(items: [Entry; 64], start: usize, n: usize, b: u16) -> usize
+fn index_of(items: [Entry; 64], start: usize, n: usize, b: u16) -> usize
     requires { ⌜ (start ≤ n) × (n ≤ 64) ⌝ }
-    ensures { λ r. ⌜ r ≡ start + placeOf b (drop start (take n items)) ⌝ }
+    ensures { λ r. ⌜ r ≡ start + indexOf b (drop start (take n items)) ⌝ }
 {
     let mut i = start;
     while i < n {

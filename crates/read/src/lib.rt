@@ -12,8 +12,8 @@ ghost use Rattle.lists.specs.Lists.{if_then_else_, part};
 ghost use Rattle.model.specs.Sizes.{bucketSize};
 ghost use Rattle.model.specs.Spare.{readKind, dirtyKind};
 ghost use Rattle.model.specs.State.{holds};
-ghost use Rattle.model.specs.Steps.{nothing, merged};
-ghost use Rattle.model.specs.Operations.{touch, read};
+ghost use Rattle.model.specs.Steps.{nothing};
+ghost use Rattle.model.specs.Operations.{lastEpoch, touch, read};
 ghost use Rattle.model.specs.Calls.{readCall, carryOut, call};
 ghost use Rattle.geometry.specs.Geometry.{device, Lent};
 ghost use Rattle.meter.specs.Run.{running};
@@ -23,7 +23,7 @@ ghost use Rattle.gather.specs.Sources.{Sources};
 ghost use Rattle.steps.specs.Turns.{reached, after};
 ghost use Rattle.outcome.specs.Handed.{handedBack, handed};
 ghost use Rattle.oldest.specs.Drops.{Drops};
-ghost use Rattle.read.specs.Reads.{Reads, roomFor, copyOf};
+ghost use Rattle.read.specs.Reads.{Reads, roomFor, copyOf, copyHanded};
 
 // Nothing is stored: the bytes asked for are gathered in the buffer itself.
 fn answer(
@@ -50,7 +50,11 @@ fn answer(
 fn copy_kind(s: State, held: bool, b: u16) -> u8
     ensures { λ r. ⌜ r ≡ (if held || holds b (entriesOf (s .writes)) then dirtyKind else readKind) ⌝ }
 {
-    if held | s.writes.holds(b) { 3 } else { 1 }
+    if held | s.writes.holds(b) {
+        model::DIRTY
+    } else {
+        model::READ
+    }
 }
 
 // Unless b has a read bucket, whose place the copy takes, the least recent one gives way.
@@ -84,7 +88,7 @@ fn make_copy(
     disk: &mut [u8],
 ) -> Turn
     requires { ⌜ Lent (s .sizes) (now flash) (now spare) (now disk) ⌝ }
-    requires { ⌜ Drops (placesOf s) × (s .next ≤ 4294967294) × (length (now bytes) ≡ bucketSize (s .sizes)) ⌝ }
+    requires { ⌜ Drops (placesOf s) × (s .next ≤ lastEpoch) × (length (now bytes) ≡ bucketSize (s .sizes)) ⌝ }
     ensures { λ r. ⌜ reached (now (flash .exit)) (now (spare .exit)) (now (disk .exit)) r ≡ after (s .sizes) (copyOf (s .sizes) b (now (bytes .entry))) (placesOf s) (running (now (flash .entry)) (now (spare .entry)) (now (disk .entry)) meter) ⌝ }
     ensures { λ _. ⌜ Lent (s .sizes) (now (flash .exit)) (now (spare .exit)) (now (disk .exit)) ⌝ }
 {
@@ -122,8 +126,8 @@ fn copy_by(
 ) -> Outcome
     requires { ⌜ Lent (s .sizes) (now flash) (now spare) (now disk) ⌝ }
     requires { ⌜ Reads (placesOf s) b offset (length (now buffer)) (now spare) ⌝ }
-    requires { ⌜ (s .next ≤ 4294967294) × (length (now bytes) ≡ bucketSize (s .sizes)) ⌝ }
-    ensures { λ r. ⌜ handedBack (device (now (flash .exit)) (now (spare .exit)) (now (disk .exit))) (now (buffer .exit)) r ≡ handed s (carryOut allowance (readCall b offset (now (buffer .entry))) (placesOf s) (device (now (flash .entry)) (now (spare .entry)) (now (disk .entry))) (copyOf (s .sizes) b (merged (s .sizes) (placesOf s) (device (now (flash .entry)) (now (spare .entry)) (now (disk .entry))) b) (placesOf s) (device (now (flash .entry)) (now (spare .entry)) (now (disk .entry))))) ⌝ }
+    requires { ⌜ (s .next ≤ lastEpoch) × (length (now bytes) ≡ bucketSize (s .sizes)) ⌝ }
+    ensures { λ r. ⌜ handedBack (device (now (flash .exit)) (now (spare .exit)) (now (disk .exit))) (now (buffer .exit)) r ≡ copyHanded allowance s b offset (now (buffer .entry)) (device (now (flash .entry)) (now (spare .entry)) (now (disk .entry))) ⌝ }
 {
     gather::merged_range(s, b, 0, flash, spare, disk, bytes);
     let whole = Meter::whole(allowance);
@@ -146,9 +150,9 @@ fn copy_small(
 ) -> Outcome
     requires { ⌜ Lent (s .sizes) (now flash) (now spare) (now disk) ⌝ }
     requires { ⌜ Reads (placesOf s) b offset (length (now buffer)) (now spare) ⌝ }
-    requires { ⌜ s .next ≤ 4294967294 ⌝ }
+    requires { ⌜ s .next ≤ lastEpoch ⌝ }
     requires { ⌜ bucketSize (s .sizes) ≤ 2048 ⌝ }
-    ensures { λ r. ⌜ handedBack (device (now (flash .exit)) (now (spare .exit)) (now (disk .exit))) (now (buffer .exit)) r ≡ handed s (carryOut allowance (readCall b offset (now (buffer .entry))) (placesOf s) (device (now (flash .entry)) (now (spare .entry)) (now (disk .entry))) (copyOf (s .sizes) b (merged (s .sizes) (placesOf s) (device (now (flash .entry)) (now (spare .entry)) (now (disk .entry))) b) (placesOf s) (device (now (flash .entry)) (now (spare .entry)) (now (disk .entry))))) ⌝ }
+    ensures { λ r. ⌜ handedBack (device (now (flash .exit)) (now (spare .exit)) (now (disk .exit))) (now (buffer .exit)) r ≡ copyHanded allowance s b offset (now (buffer .entry)) (device (now (flash .entry)) (now (spare .entry)) (now (disk .entry))) ⌝ }
 {
     let mut bytes = [0u8; 2048];
     let z = s.sizes;
@@ -178,8 +182,8 @@ fn copy_large(
 ) -> Outcome
     requires { ⌜ Lent (s .sizes) (now flash) (now spare) (now disk) ⌝ }
     requires { ⌜ Reads (placesOf s) b offset (length (now buffer)) (now spare) ⌝ }
-    requires { ⌜ s .next ≤ 4294967294 ⌝ }
-    ensures { λ r. ⌜ handedBack (device (now (flash .exit)) (now (spare .exit)) (now (disk .exit))) (now (buffer .exit)) r ≡ handed s (carryOut allowance (readCall b offset (now (buffer .entry))) (placesOf s) (device (now (flash .entry)) (now (spare .entry)) (now (disk .entry))) (copyOf (s .sizes) b (merged (s .sizes) (placesOf s) (device (now (flash .entry)) (now (spare .entry)) (now (disk .entry))) b) (placesOf s) (device (now (flash .entry)) (now (spare .entry)) (now (disk .entry))))) ⌝ }
+    requires { ⌜ s .next ≤ lastEpoch ⌝ }
+    ensures { λ r. ⌜ handedBack (device (now (flash .exit)) (now (spare .exit)) (now (disk .exit))) (now (buffer .exit)) r ≡ copyHanded allowance s b offset (now (buffer .entry)) (device (now (flash .entry)) (now (spare .entry)) (now (disk .entry))) ⌝ }
 {
     let mut bytes = [0u8; 65536];
     let z = s.sizes;
@@ -210,8 +214,8 @@ fn copy_read(
 ) -> Outcome
     requires { ⌜ Lent (s .sizes) (now flash) (now spare) (now disk) ⌝ }
     requires { ⌜ Reads (placesOf s) b offset (length (now buffer)) (now spare) ⌝ }
-    requires { ⌜ s .next ≤ 4294967294 ⌝ }
-    ensures { λ r. ⌜ handedBack (device (now (flash .exit)) (now (spare .exit)) (now (disk .exit))) (now (buffer .exit)) r ≡ handed s (carryOut allowance (readCall b offset (now (buffer .entry))) (placesOf s) (device (now (flash .entry)) (now (spare .entry)) (now (disk .entry))) (copyOf (s .sizes) b (merged (s .sizes) (placesOf s) (device (now (flash .entry)) (now (spare .entry)) (now (disk .entry))) b) (placesOf s) (device (now (flash .entry)) (now (spare .entry)) (now (disk .entry))))) ⌝ }
+    requires { ⌜ s .next ≤ lastEpoch ⌝ }
+    ensures { λ r. ⌜ handedBack (device (now (flash .exit)) (now (spare .exit)) (now (disk .exit))) (now (buffer .exit)) r ≡ copyHanded allowance s b offset (now (buffer .entry)) (device (now (flash .entry)) (now (spare .entry)) (now (disk .entry))) ⌝ }
 {
     let z = s.sizes;
     let size = z.p * z.s;
@@ -240,7 +244,7 @@ fn touched(s: State, last: bool, b: u16) -> State
     s.touch(b)
 }
 
-// Past the epoch 4,294,967,294 fewer than two are left.
+// Past the last epoch fewer than two are left.
 fn read_bucket(
     s: State,
     b: u16,
@@ -255,7 +259,7 @@ fn read_bucket(
     requires { ⌜ Reads (placesOf s) b offset (length (now buffer)) (now spare) ⌝ }
     ensures { λ r. ⌜ handedBack (device (now (flash .exit)) (now (spare .exit)) (now (disk .exit))) (now (buffer .exit)) r ≡ handed s (carryOut allowance (readCall b offset (now (buffer .entry))) (placesOf s) (device (now (flash .entry)) (now (spare .entry)) (now (disk .entry))) (read (s .sizes) b (placesOf s) (device (now (flash .entry)) (now (spare .entry)) (now (disk .entry))))) ⌝ }
 {
-    let last = 4294967294 < s.next;
+    let last = model::LAST_EPOCH < s.next;
     if stores_nothing(s, last, b) {
         let new = touched(s, last, b);
         return answer(s, new, b, offset, buffer, allowance, flash, spare, disk);

@@ -31,7 +31,7 @@ use Rattle.rescue.specs.Sources.{Recoverable}
 use Rattle.classes.specs.Columns.{nowhere, inOrder, named, column, isNamed}
 use Rattle.classes.proofs.Columns.{below-nowhere, is-named}
 use Rattle.classes.proofs.Orders.{filtered, in-order, order-short}
-use Rattle.recover.specs.Places.{picked, differing}
+use Rattle.recover.specs.Kept.{picked, differing}
 
 pub chip-of : {z : Sizes} {flash spare disk : List ℕ} → Recoverable z flash spare disk → Chip z spare
 chip-of sound = record { limits = sound .limits; spare-length = sound .lent .spare-length }

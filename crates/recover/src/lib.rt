@@ -26,13 +26,13 @@ ghost use Rattle.image.specs.Chip.{Chip, spareOnly};
 ghost use Rattle.classes.specs.Columns.{inOrder, column, Columns};
 ghost use Rattle.rescue.specs.Sources.{Recoverable};
 ghost use Rattle.outcome.specs.Handed.{handedBack, handed};
-ghost use Rattle.recover.specs.Places.{place, picked, differing};
+ghost use Rattle.recover.specs.Kept.{entryOf, picked, differing};
 
-// The bucket's place in a queue. The write queue counts its blank pages.
-fn place(z: Sizes, c: u8, counted: bool, spare: &[u8]) -> Entry
+// The bucket's entry in a queue. The write queue counts its blank pages.
+fn entry_of(z: Sizes, c: u8, counted: bool, spare: &[u8]) -> Entry
     requires { ⌜ Chip z (now spare) ⌝ }
     requires { ⌜ c < z .c ⌝ }
-    ensures { λ r. ⌜ r ≡ place z (spareOnly (now (spare .entry))) counted c ⌝ }
+    ensures { λ r. ⌜ r ≡ entryOf z (spareOnly (now (spare .entry))) counted c ⌝ }
 {
     let back = image::back_of(z, c as usize, spare);
     if counted {
@@ -44,7 +44,7 @@ fn place(z: Sizes, c: u8, counted: bool, spare: &[u8]) -> Entry
 }
 
 // A queue of the buckets that the column names and the dropped ones do not.
-fn placed(
+fn kept_queue(
     z: Sizes,
     order: &[u8],
     column: &[u16],
@@ -56,7 +56,7 @@ fn placed(
     requires { ⌜ all (isBelow (body z)) (now order) ≡ true ⌝ }
     requires { ⌜ (length (now column) ≡ length (now order)) × (length (now dropped) ≡ length (now order)) ⌝ }
     requires { ⌜ length (differing (now column) (now dropped) (now order)) ≤ 64 ⌝ }
-    ensures { λ r. ⌜ entriesOf r ≡ map (place z (spareOnly (now (spare .entry))) counted) (differing (now (column .entry)) (now (dropped .entry)) (now (order .entry))) ⌝ }
+    ensures { λ r. ⌜ entriesOf r ≡ map (entryOf z (spareOnly (now (spare .entry))) counted) (differing (now (column .entry)) (now (dropped .entry)) (now (order .entry))) ⌝ }
 {
     let none = Queue::empty();
     let mut items = none.items;
@@ -64,7 +64,7 @@ fn placed(
     let mut i = 0;
     while i < order.len() {
         if column[i] != dropped[i] {
-            items[n] = place(z, order[i], counted, spare);
+            items[n] = entry_of(z, order[i], counted, spare);
             n += 1;
         }
         i += 1;
@@ -130,8 +130,8 @@ fn recovered(
     requires { ⌜ Columns z (spareOnly (now spare)) (now order) (now writes) (now «dropped_writes») (now copies) (now «dropped_copies») ⌝ }
     ensures { λ r. ⌜ placesOf r ≡ recover z (spareOnly (now (spare .entry))) .state ⌝ }
 {
-    let reads = placed(z, order, copies, dropped_copies, false, spare);
-    let queued = placed(z, order, writes, dropped_writes, true, spare);
+    let reads = kept_queue(z, order, copies, dropped_copies, false, spare);
+    let queued = kept_queue(z, order, writes, dropped_writes, true, spare);
     let gc = retired(z, order, dropped_writes, copies, dropped_copies, spare);
     let free = classes::buckets(z, false, spare);
     let top = fits::top_epoch(z, spare);

@@ -26,7 +26,7 @@ use Rattle.model.proofs.BucketKinds.{complete-copy, copy-used, write-used}
 use Rattle.model.proofs.RecoverChoice.{chosen-of, chosen-test, dropped-write, flushed-by, drop-flushes, dropped-copy, unsaved-by, drop-saves, chosen-in, head-chosen}
 use Rattle.classes.specs.Columns.{nowhere, inOrder, named, column}
 use Rattle.classes.proofs.Orders.{filtered, in-order, from-order}
-use Rattle.classes.proofs.Columns.{isOf, named-is, member-column}
+use Rattle.classes.proofs.Columns.{standsFor, named-is, member-column}
 use Rattle.rescue.specs.Beside.{beside, isUnwritten}
 
 pub head-in : (l : List ℕ) → empty l ≡ false → 1 ≤ times (head l) l
@@ -77,12 +77,12 @@ module _ (z : Sizes) (d : Device) where
     -- a bucket of b that passes the test
     standing : member b (column z d t) ≡ true → (c : ℕ) × (1 ≤ times c (inOrder z d)) × (t c ≡ true) × (backOf z d c ≡ b)
     standing h =
-        let w = any-in (isOf z d t b) (inOrder z d) (sym (member-column z d t b (inOrder z d) low) ∙ h) in
+        let w = any-in (standsFor z d t b) (inOrder z d) (sym (member-column z d t b (inOrder z d) low) ∙ h) in
         (w .0, w .1, and-left (t (w .0)) (eqb (backOf z d (w .0)) b) (w .2), eqb-true (backOf z d (w .0)) b (and-right (t (w .0)) (eqb (backOf z d (w .0)) b) (w .2)))
 
     stands : (c : ℕ) → c < body z → used z d c ≡ true → t c ≡ true → backOf z d c ≡ b → member b (column z d t) ≡ true
     stands c inside u q e =
-        member-column z d t b (inOrder z d) low ∙ in-any (isOf z d t b) (inOrder z d) c (omega (arith, from-order z d c inside u)) (and-true q (eq-eqb (backOf z d c) b e))
+        member-column z d t b (inOrder z d) low ∙ in-any (standsFor z d t b) (inOrder z d) c (omega (arith, from-order z d c inside u)) (and-true q (eq-eqb (backOf z d c) b e))
 
   module _ (b : ℕ) (low : b < nowhere) where
     pub flushed-stands : member b (column z d (isDroppedWrite z d)) ≡ flushed z d b
@@ -117,7 +117,7 @@ module _ (z : Sizes) (d : Device) where
 
     -- ---- the buckets beside b
 
-    beside-kept : (t : ℕ → Bool) (l : List ℕ) → beside b (map (named z d t) l) l ≡ keep (isOf z d t b) l
+    beside-kept : (t : ℕ → Bool) (l : List ℕ) → beside b (map (named z d t) l) l ≡ keep (standsFor z d t b) l
     unfolding beside keep
     beside-kept t [] = refl
     beside-kept t (c ∷ l) = rw (named-is z d t b c low, beside-kept t l)
@@ -132,9 +132,9 @@ module _ (z : Sizes) (d : Device) where
       has-copy : member b (column z d (isChosen z d)) ≡ true → (empty (chosen z d b) ≡ false) × (head (chosen z d b) ≡ head (beside b (column z d (isChosen z d)) (inOrder z d)))
       has-copy h =
           let w = standing (isChosen z d) b low h in
-          let copies = keep (isOf z d (isChosen z d) b) (inOrder z d) in
-          let one : 1 ≤ times (w .0) copies = rw (in-kept (isOf z d (isChosen z d) b) (w .0) (inOrder z d) (and-true (w .2) (eq-eqb (backOf z d (w .0)) b (w .3)))) (w .1) in
-          let k = kept-in (isOf z d (isChosen z d) b) (head copies) (inOrder z d) (head-in copies (some-in (w .0) copies one)) in
+          let copies = keep (standsFor z d (isChosen z d) b) (inOrder z d) in
+          let one : 1 ≤ times (w .0) copies = rw (in-kept (standsFor z d (isChosen z d) b) (w .0) (inOrder z d) (and-true (w .2) (eq-eqb (backOf z d (w .0)) b (w .3)))) (w .1) in
+          let k = kept-in (standsFor z d (isChosen z d) b) (head copies) (inOrder z d) (head-in copies (some-in (w .0) copies one)) in
           let r = head-chosen z d formed b (head copies) (in-order z d (head copies) (k .1) .1)
           (chosen-of z d (head copies) (and-left (isChosen z d (head copies)) (eqb (backOf z d (head copies)) b) (k .0)))
           (eqb-true (backOf z d (head copies)) b (and-right (isChosen z d (head copies)) (eqb (backOf z d (head copies)) b) (k .0))) in

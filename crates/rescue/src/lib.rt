@@ -54,8 +54,8 @@ fn skip_parts(x: u16, column: &[u16], from: usize) -> usize
     at
 }
 
-// The first place of the number, from one place on; or the end.
-fn next_place(x: u16, column: &[u16], from: usize) -> usize
+// The first index of the number, from one index on; or the end.
+fn next_index(x: u16, column: &[u16], from: usize) -> usize
     requires { ⌜ from ≤ length (now column) ⌝ }
     ensures { λ r. ⌜ Passed x (now (column .entry)) from r × (r < length (now (column .entry)) → x ≡ getD (now (column .entry)) r 0) ⌝ }
 {
@@ -76,9 +76,9 @@ fn lay_copy(z: Sizes, b: u16, order: &[u8], copies: &[u16], flash: &[u8], window
     requires { ⌜ length (now window) ≤ bucketSize z ⌝ }
     ensures { λ _. ⌜ now (window .exit) ≡ (if member b (now (copies .entry)) then part (part (now (flash .entry)) (head (beside b (now (copies .entry)) (now (order .entry))) * bucketSize z) (bucketSize z)) 0 (length (now (window .entry))) else now (window .entry)) ⌝ }
 {
-    let place = next_place(b, copies, 0);
-    if place < copies.len() {
-        let c = order[place] as usize;
+    let at = next_index(b, copies, 0);
+    if at < copies.len() {
+        let c = order[at] as usize;
         gather::piece_range(flash, z.p * z.s, c, 0, window);
     }
 }
@@ -98,10 +98,10 @@ fn lay_logs(
     requires { ⌜ length (now window) ≤ bucketSize z ⌝ }
     ensures { λ _. ⌜ ((base : List ℕ) → length base ≡ bucketSize z → Turns 0 base (mergeAll z (chip (now (flash .entry)) (now (spare .entry))) (beside b (now (writes .entry)) (now (order .entry))) base) (now (window .entry)) (now (window .exit))) ⌝ }
 {
-    let mut place = next_place(b, writes, 0);
-    while place < writes.len() {
-        merge::merge_range(z, order[place] as usize, 0, flash, spare, window);
-        place = next_place(b, writes, place + 1);
+    let mut at = next_index(b, writes, 0);
+    while at < writes.len() {
+        merge::merge_range(z, order[at] as usize, 0, flash, spare, window);
+        at = next_index(b, writes, at + 1);
     }
 }
 

@@ -46,11 +46,11 @@ fn kind_fits(z: Sizes, f: Fields) -> bool
     requires { ⌜ Limits z ⌝ }
     ensures { λ r. ⌜ ((tag : List ℕ) → fields tag ≡ f → r ≡ kindFits z tag) ⌝ }
 {
-    if f.kind == 2 {
+    if f.kind == model::WRITE {
         return true;
     }
     let spans = (f.offset == 0) & (f.last as usize + 1 == z.p * z.s);
-    (1 <= f.kind) & (f.kind <= 3) & spans
+    (model::READ <= f.kind) & (f.kind <= model::DIRTY) & spans
 }
 
 // Whether a page starts a log that fits.
@@ -69,8 +69,8 @@ fn first_fits(z: Sizes, f: Fields, zeroed: bool) -> bool
     requires { ⌜ Limits z ⌝ }
     ensures { λ r. ⌜ ((tag : List ℕ) → fields tag ≡ f → zeros tag ≡ zeroed → r ≡ (fieldsFit z tag && eqb (ordinal tag) 0)) ⌝ }
 {
-    let place = (1 <= f.epoch) & ((f.back as usize) < z.b);
-    if !(place & zeroed & (f.ordinal == 0)) {
+    let within = (1 <= f.epoch) & ((f.back as usize) < z.b);
+    if !(within & zeroed & (f.ordinal == 0)) {
         return false;
     }
     starts(z, f)
@@ -93,8 +93,8 @@ fn same_bucket(before: &[u8], page: &[u8]) -> bool
     requires { ⌜ length (now page) ≡ 16 ⌝ }
     ensures { λ r. ⌜ r ≡ sameBucket (now (before .entry)) (now (page .entry)) ⌝ }
 {
-    let place = spare::equal(&before[4..12], &page[4..12]);
-    place & (page[0] == before[0]) & (page[3] == 0)
+    let bucket = spare::equal(&before[4..12], &page[4..12]);
+    bucket & (page[0] == before[0]) & (page[3] == 0)
 }
 
 fn is_next(before: u8, ordinal: u8) -> bool
@@ -121,7 +121,7 @@ fn starts_write(z: Sizes, page: &[u8]) -> bool
     ensures { λ r. ⌜ r ≡ (logFits z (now (page .entry)) && eqb (kind (now (page .entry))) writeKind) ⌝ }
 {
     let f = spare::fields_at(page, 0);
-    log_fits(z, f) & (f.kind == 2)
+    log_fits(z, f) & (f.kind == model::WRITE)
 }
 
 // The rules for a page of the bucket of the page before it: it starts a log, or continues one.
@@ -272,7 +272,7 @@ fn next_kind(z: Sizes, c: usize, spare: &[u8]) -> usize
     let end = geometry::body(z);
     let mut e = c;
     while e < end {
-        if spare::kind_at(spare, e * z.p) != 255 {
+        if spare::kind_at(spare, e * z.p) != spare::NO_KIND {
             return e;
         }
         e += 1;

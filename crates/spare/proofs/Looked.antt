@@ -1,4 +1,4 @@
--- What a look says of the spare bytes.
+-- What the spare bytes say of a page.
 use mathlib.Core.Path.{_≡_, refl}
 use mathlib.Core.Bool.{Bool, true, false}
 use mathlib.Core.List.{List}

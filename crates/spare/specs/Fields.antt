@@ -24,7 +24,7 @@ fields tag = record {
   last = two tag 14;
 }
 
--- what a look at spare bytes finds
+-- what a page is by its spare bytes
 unfoldable pub seen : List ℕ → Seen
 seen tag = if blank tag then Blank else Programmed (fields tag)
 

@@ -1,4 +1,4 @@
-// The sixteen spare bytes of a page: written from fields, and looked at.
+// The sixteen spare bytes of a page: written from fields, and read.
 ghost use mathlib.Core.Path.{_≡_};
 ghost use Prim.Native.Nat.{_+_, _*_, _≤_};
 ghost use lib.Dec.{eqb};
@@ -6,6 +6,11 @@ ghost use lib.ListN.{length};
 ghost use Rattle.lists.specs.Lists.{allBelow, same, part, ff};
 ghost use Rattle.model.specs.Spare.{two, four, blank, kind, ordinal, pages, epoch, back, zeros};
 ghost use Rattle.spare.specs.Fields.{tag, fields, seen, blankFrom};
+
+// What the erased bytes of a blank page read as.
+pub const NO_KIND: u8 = 255;
+
+pub const NO_EPOCH: u32 = 4294967295;
 
 // What the spare bytes of a programmed page say. `last` is the log's length less one.
 pub struct Fields {
@@ -18,7 +23,7 @@ pub struct Fields {
     pub last: u16,
 }
 
-// What a look at a page's spare bytes finds.
+// What a page is by its spare bytes.
 pub enum Seen {
     Blank,
     Programmed(Fields),
@@ -158,7 +163,7 @@ pub fn are_blank(spare: &[u8], page: usize, n: usize) -> bool
 }
 
 // What sixteen spare bytes are: those of an erased page, or fields.
-fn look(bytes: &[u8]) -> Seen
+fn seen_in(bytes: &[u8]) -> Seen
     requires { ⌜ length (now bytes) ≡ 16 ⌝ }
     ensures { λ r. ⌜ r ≡ seen (now (bytes .entry)) ⌝ }
 {
@@ -179,14 +184,14 @@ pub fn fields_at(spare: &[u8], page: usize) -> Fields
     decode(&spare[start..end])
 }
 
-// A look at a page of the spare area, counted over the whole chip.
-pub fn look_at(spare: &[u8], page: usize) -> Seen
+// What a page of the spare area is, counted over the whole chip.
+pub fn seen_at(spare: &[u8], page: usize) -> Seen
     requires { ⌜ page * 16 + 16 ≤ length (now spare) ⌝ }
     ensures { λ r. ⌜ r ≡ seen (part (now (spare .entry)) (page * 16) 16) ⌝ }
 {
     let start = page * 16;
     let end = start + 16;
-    look(&spare[start..end])
+    seen_in(&spare[start..end])
 }
 
 // Whether the zero bytes of sixteen spare bytes are zero.
@@ -217,7 +222,7 @@ pub fn back_at(spare: &[u8], page: usize) -> u16
     two_at(&spare[start..end], 8)
 }
 
-// The kind of a page; 255 in a blank one.
+// The kind of a page, or `NO_KIND`.
 pub fn kind_at(spare: &[u8], page: usize) -> u8
     requires { ⌜ page * 16 + 16 ≤ length (now spare) ⌝ }
     ensures { λ r. ⌜ r ≡ kind (part (now (spare .entry)) (page * 16) 16) ⌝ }
@@ -235,7 +240,7 @@ pub fn ends_at(spare: &[u8], page: usize) -> bool
     ordinal + 1 == spare[start + 2] as u16
 }
 
-// The epoch of a page; its erased bytes read as 4,294,967,295.
+// The epoch of a page, or `NO_EPOCH`.
 pub fn epoch_at(spare: &[u8], page: usize) -> u32
     requires { ⌜ page * 16 + 16 ≤ length (now spare) ⌝ }
     ensures { λ r. ⌜ r ≡ epoch (part (now (spare .entry)) (page * 16) 16) ⌝ }

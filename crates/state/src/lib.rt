@@ -223,7 +223,7 @@ impl State {
 fn halved_when_due(queue: Queue, accepted: u8) -> Queue
     ensures { λ r. ⌜ entriesOf r ≡ (if leb 15 accepted then map halved (entriesOf queue) else entriesOf queue) ⌝ }
 {
-    if 15 <= accepted {
+    if model::LAST_COUNT <= accepted {
         return queue.halve();
     }
     queue
@@ -232,7 +232,11 @@ fn halved_when_due(queue: Queue, accepted: u8) -> Queue
 fn next_count(accepted: u8) -> u8
     ensures { λ r. ⌜ r ≡ (if leb 15 accepted then 0 else accepted + 1) ⌝ }
 {
-    if 15 <= accepted { 0 } else { accepted + 1 }
+    if model::LAST_COUNT <= accepted {
+        0
+    } else {
+        accepted + 1
+    }
 }
 
 // The GC queue with b's cache bucket behind it, if the other queue holds b.

@@ -18,13 +18,13 @@ array-share-prefix-backs c = let w = c .before .before .drained in
     let n : length (w .result .backs) ≡ 256 = search needs in
     omega (arith, w .ensures .1 .0)
 
-slice-aggregate-write-units : tie.Need-slice-aggregate-write-units
-slice-aggregate-write-units c = let w = c .before .before .before .drained in
+slice-aggregate-write-drained : tie.Need-slice-aggregate-write-drained
+slice-aggregate-write-drained c = let w = c .before .before .before .drained in
     let n : length (w .result .backs) ≡ 256 = search needs in
     sym (length-take-le (w .result .count) (w .result .backs) (omega (arith, w .ensures .1 .0)))
 
-write-units-requires : tie.Need-write-units-requires
-write-units-requires c κs = search needs
+write-drained-requires : tie.Need-write-drained-requires
+write-drained-requires c κs = search needs
 
 same-length : tie.Need-same-length
 same-length c = search needs
@@ -39,7 +39,7 @@ returns : tie.Need-returns
 unfolding after
 returns c = let a = c .before .before .before .before .before .before .before .before .before .before .before .before .before .before .before .before .before .before .args in
     let d = device (a .flash .now) (a .spare .now) (a .disk .now) in
-    let w = c .before .before .before .before .before .before .write-units .ensures in
+    let w = c .before .before .before .before .before .before .write-drained .ensures in
     (rw (w .0, c .before .before .before .before .before .before .before .before .before .before .before .before .before .drained .ensures .0 ∙ same-drained (a .s .sizes) d (placesOf (a .s))), w .1)
 
 pub drain-queues-spec : {M : Type 1} → statement M
@@ -48,8 +48,8 @@ drain-queues-spec =
     (tie.spec
     drained-requires
     array-share-prefix-backs
-    slice-aggregate-write-units
-    write-units-requires
+    slice-aggregate-write-drained
+    write-drained-requires
     same-length
     same-length-2
     same-length-3

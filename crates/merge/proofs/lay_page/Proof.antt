@@ -15,8 +15,8 @@ returns c = λ base e shows.
     let s = c .before .before .before .before .before in
     rw (log-lacking (s .pre .0) (s .pre .1 .0) (s .args .k) (sym (c .before .ends-log .ensures) ∙ not-true _ (c .if1 .taken)) base) shows
 
-look-requires : tie.Need-look-requires
-look-requires c κs = search needs
+page-seen-requires : tie.Need-page-seen-requires
+page-seen-requires c κs = search needs
 
 enum-known-page : tie.Need-enum-known-page
 enum-known-page c = search needs
@@ -27,11 +27,11 @@ enum-told c = search needs
 returns-2 : tie.Need-returns-2
 returns-2 c = λ base e shows.
     let s = c .before .before .before .before .before .before .before .before in
-    rw (nothing-laid (s .pre .0) (s .pre .1 .0) (s .args .k) (sym (c .before .before .look .ensures) ∙ c .enum-told .given .1) base) shows
+    rw (nothing-laid (s .pre .0) (s .pre .1 .0) (s .args .k) (sym (c .before .before .page-seen .ensures) ∙ c .enum-told .given .1) base) shows
 
 lay-log-requires : tie.Need-lay-log-requires
 lay-log-requires c κs = let p = c .before .before .before .before .before .before .before .before .before .before .pre in
-    let says = sym (c .before .before .before .before .look .ensures) ∙ c .before .before .page .given .1 in
+    let says = sym (c .before .before .before .before .page-seen .ensures) ∙ c .before .before .page .given .1 in
     let last = ends-last (p .0) (p .1 .0) (p .1 .1 .0) says (sym (c .before .before .before .before .before .before .ends-log .ensures) ∙ not-false _ (c .before .before .before .before .before .if1 .left)) in
     (p .0 .limits, (p .0 .flash-length, (on-chip _ _ (p .1 .0), (log-place (p .0) (p .1 .0) (p .1 .1 .0) says last, p .1 .1 .1))))
 
@@ -41,7 +41,7 @@ same-length c = search needs
 returns-3 : tie.Need-returns-3
 returns-3 c = λ base e shows.
     let p = c .before .before .before .before .before .before .before .before .before .before .before .before .before .pre in
-    let says = sym (c .before .before .before .before .before .before .before .look .ensures) ∙ c .before .before .before .before .before .page .given .1 in
+    let says = sym (c .before .before .before .before .before .before .before .page-seen .ensures) ∙ c .before .before .before .before .before .page .given .1 in
     let last = ends-last (p .0) (p .1 .0) (p .1 .1 .0) says (sym (c .before .before .before .before .before .before .before .before .before .ends-log .ensures) ∙ not-false _ (c .before .before .before .before .before .before .before .before .if1 .left)) in
     let whole = merged-length (p .0) (p .1 .0) base e (c .before .before .before .before .before .before .before .before .before .before .before .before .before .args .k) (omega (arith, p .1 .1 .0)) in
     rw (log-laid (p .0) (p .1 .0) (p .1 .1 .0) says last base) (c .before .before .lay-log .ensures _ whole shows)
@@ -52,7 +52,7 @@ lay-page-spec =
     (tie.spec
     ends-log-requires
     returns
-    look-requires
+    page-seen-requires
     enum-known-page
     enum-told
     returns-2

@@ -1,7 +1,7 @@
 use Prim.Native.Nat.{_<_, _+_, _≤_, _-_}
 use mathlib.Core.Bool.{not, true, false}
 use Rattle.recover.proofs.Queues.{picked-more, picked-room}
-use Rattle.recover.specs.Places.{picked}
+use Rattle.recover.specs.Kept.{picked}
 use Rattle.classes.specs.Columns.{nowhere, isNamed}
 use Rattle.lists.proofs.Arrays.{take-used}
 use borrow.Author.Tests.{eq-eqb, ne-eqb}

@@ -4,7 +4,7 @@ use Rattle.model.proofs.Formed.{formed-of}
 use Rattle.model.specs.Recover.{byEpoch, isChosen, isDroppedWrite, isDroppedCopy, keptCopies, keptWrites, recover}
 use Rattle.model.specs.Image.{isWrite}
 use Rattle.image.specs.Chip.{spareOnly}
-use Rattle.recover.specs.Places.{differing}
+use Rattle.recover.specs.Kept.{differing}
 use Rattle.recover.proofs.Queues.{order-within, column-length, kept-copies, kept-writes, few-copies, few-writes}
 use Rattle.recover.proofs.Epochs.{top-fits}
 use borrow.Author.Needs.{needs}
@@ -19,12 +19,12 @@ writes-kept : (s : tie.Start) → differing (s .args .writes .now) (s .args .dro
 writes-kept s = let k = s .pre .1 .1 in let z = s .args .z in let d = spareOnly (s .args .spare .now) in
     rw (k .writes-are, k .dropped-writes-are, k .order-is) (kept-writes z d (s .pre .0 .limits) (formed-of z d (s .pre .1 .0)))
 
-placed-requires : tie.Need-placed-requires
-placed-requires c κs = let s = c .before .before .before .before .before .before in let k = s .pre .1 .1 in let z = s .args .z in let d = spareOnly (s .args .spare .now) in
+kept-queue-requires : tie.Need-kept-queue-requires
+kept-queue-requires c κs = let s = c .before .before .before .before .before .before in let k = s .pre .1 .1 in let z = s .args .z in let d = spareOnly (s .args .spare .now) in
     (s .pre .0, (rw (k .order-is) (order-within z d), ((column-length z d (isChosen z d) (k .order-is) (k .copies-are), column-length z d (isDroppedCopy z d) (k .order-is) (k .dropped-copies-are)), rw (copies-kept s) (few-copies z d (s .pre .0 .limits) (formed-of z d (s .pre .1 .0))))))
 
-placed-requires-2 : tie.Need-placed-requires-2
-placed-requires-2 c κs = let s = c .before .before .before .before .before .before .before in let k = s .pre .1 .1 in let z = s .args .z in let d = spareOnly (s .args .spare .now) in
+kept-queue-requires-2 : tie.Need-kept-queue-requires-2
+kept-queue-requires-2 c κs = let s = c .before .before .before .before .before .before .before in let k = s .pre .1 .1 in let z = s .args .z in let d = spareOnly (s .args .spare .now) in
     (s .pre .0, (rw (k .order-is) (order-within z d), ((column-length z d (isWrite z d) (k .order-is) (k .writes-are), column-length z d (isDroppedWrite z d) (k .order-is) (k .dropped-writes-are)), rw (writes-kept s) (few-writes z d (s .pre .0 .limits) (formed-of z d (s .pre .1 .0))))))
 
 retired-requires : tie.Need-retired-requires
@@ -43,14 +43,14 @@ add-t13 c = let s = c .before .before .before .before .before .before .before .b
 
 returns : tie.Need-returns
 unfolding recover
-returns c = let s = c .before .before .before .before .before .before .before .before .before .before .before in rw (c .before .before .before .before .placed .ensures, copies-kept s, c .before .before .before .placed2 .ensures, writes-kept s, c .before .before .retired .ensures, c .before .buckets .ensures, c .top-epoch .ensures)
+returns c = let s = c .before .before .before .before .before .before .before .before .before .before .before in rw (c .before .before .before .before .kept-queue .ensures, copies-kept s, c .before .before .before .kept-queue2 .ensures, writes-kept s, c .before .before .retired .ensures, c .before .buckets .ensures, c .top-epoch .ensures)
 
 pub recovered-spec : {M : Type 1} → statement M
 recovered-spec =
     tie.close
     (tie.spec
-    placed-requires
-    placed-requires-2
+    kept-queue-requires
+    kept-queue-requires-2
     retired-requires
     buckets-requires
     top-epoch-requires

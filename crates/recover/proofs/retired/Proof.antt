@@ -1,7 +1,7 @@
 use mathlib.Core.List.{List, [], _++_, append-assoc}
 use Rattle.fifo.specs.declared.Fifo.{Fifo}
 use Rattle.recover.proofs.Queues.{oldCopies, droppedCopies, droppedWrites, gc-fits, gc-is, picked-old, picked-copies, picked-writes}
-use Rattle.recover.specs.Places.{picked}
+use Rattle.recover.specs.Kept.{picked}
 use Rattle.classes.proofs.Orders.{order-short}
 use Rattle.classes.specs.Columns.{inOrder, named, column}
 use Rattle.fifo.specs.View.{listOf, fifoOf}

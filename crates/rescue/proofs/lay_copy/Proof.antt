@@ -10,14 +10,14 @@ use Rattle.rescue.proofs.Places.{found-member, found-first, found-none,
 use Rattle.rescue.proofs.lay_copy.Statement.{statement}
 use Rattle.rescue.proofs.lay_copy.Tie as tie
 
-next-place-requires : tie.Need-next-place-requires
-next-place-requires c κs = search needs
+next-index-requires : tie.Need-next-index-requires
+next-index-requires c κs = search needs
 
 shared-slice-read-c : tie.Need-shared-slice-read-c
 shared-slice-read-c c = search needs
 
 cast-c : tie.Need-cast-c
-cast-c c = omega (arith, c .shared-slice-known4 .given (c .before .before .next-place .result))
+cast-c c = omega (arith, c .shared-slice-known4 .given (c .before .before .next-index .result))
 
 mul-piece-range : tie.Need-mul-piece-range
 mul-piece-range c = omega (arith, products (c .before .before .before .before .before .before .before .before .pre .0 .0))
@@ -27,7 +27,7 @@ unfolding bucketSize
 piece-range-requires c κs =
     let start = c .before .before .before .before .before .before .before .before .before in
     let x = start .args in
-    let place = c .before .before .before .before .next-place .result in
+    let place = c .before .before .before .before .next-index .result in
     let here : place < length (x .order .now) = omega (arith, c .before .before .before .if1 .taken, start .pre .1 .0 .0) in
     let copy = listed (body (x .z)) (x .order .now) (start .pre .1 .0 .1) place here in
     (omega (arith, bucket-data (x .z) (getD (x .order .now) place 0) (on-chip (x .z) _ copy), start .pre .0 .1), omega (arith, start .pre .1 .1))
@@ -40,7 +40,7 @@ unfolding bucketSize
 returns c =
     let start = c .before .before .before .before .before .before .before .before .before .before .before .before in
     let x = start .args in
-    let found = c .before .before .before .before .before .before .before .next-place .ensures in
+    let found = c .before .before .before .before .before .before .before .next-index .ensures in
     let here = c .before .before .before .before .before .before .if1 .taken in
     rw (
       found-member (x .b) (x .copies .now) (x .order .now) (start .pre .1 .0 .0) (found .0) here (found .1 here),
@@ -51,13 +51,13 @@ returns-2 : tie.Need-returns-2
 returns-2 c =
     let start = c .before .before .before .before .before .before in
     let x = start .args in
-    rw (found-none (x .b) (x .copies .now) (x .order .now) (start .pre .1 .0 .0) (c .before .next-place .ensures .0) (omega (arith, c .if1 .left)))
+    rw (found-none (x .b) (x .copies .now) (x .order .now) (start .pre .1 .0 .0) (c .before .next-index .ensures .0) (omega (arith, c .if1 .left)))
 
 pub lay-copy-spec : {M : Type 1} → statement M
 lay-copy-spec =
     tie.close
     (tie.spec
-    next-place-requires
+    next-index-requires
     shared-slice-read-c
     cast-c
     mul-piece-range

@@ -25,14 +25,14 @@ Inv-loop z b order writes flash spare window₀ place₀ window place =
 abbrev μ-loop : tie.MeasureT-loop
 μ-loop z b order writes flash spare window₀ place₀ window place = length writes - place
 
-next-place-requires : tie.Need-next-place-requires Inv-loop μ-loop
-next-place-requires c κs = search needs
+next-index-requires : tie.Need-next-index-requires Inv-loop μ-loop
+next-index-requires c κs = search needs
 
 loop-holds : tie.Need-loop-holds Inv-loop μ-loop
 loop-holds c =
     let start = c .before .before .before .before .before .before in
     let x = start .args in
-    let found = c .next-place .ensures in (
+    let found = c .next-index .ensures in (
       found .0 .high,
       refl,
       found .1,
@@ -53,14 +53,14 @@ merge-range-requires c κs =
     let here : l .place < length (x .order .now) = omega (arith, c .before .before .loop-test .taken, start .pre .1 .0 .0) in
     (start .pre .0, (listed (body (x .z)) (x .order .now) (start .pre .1 .0 .1) (l .place) here, omega (arith, l .inv .1, start .pre .1 .1)))
 
-add-next-place : tie.Need-add-next-place Inv-loop μ-loop
-add-next-place c = omega (arith, c .before .before .before .before .before .loop-test .taken)
+add-next-index : tie.Need-add-next-index Inv-loop μ-loop
+add-next-index c = omega (arith, c .before .before .before .before .before .loop-test .taken)
 
-next-place-requires-2 : tie.Need-next-place-requires-2 Inv-loop μ-loop
-next-place-requires-2 c κs = omega (arith, c .before .before .before .before .before .loop-test .taken)
+next-index-requires-2 : tie.Need-next-index-requires-2 Inv-loop μ-loop
+next-index-requires-2 c κs = omega (arith, c .before .before .before .before .before .loop-test .taken)
 
 loop-less : tie.Need-loop-less Inv-loop μ-loop
-loop-less c = omega (arith, c .next-place2 .ensures .0 .low, c .before .before .before .before .before .before .loop-test .taken)
+loop-less c = omega (arith, c .next-index2 .ensures .0 .low, c .before .before .before .before .before .before .loop-test .taken)
 
 loop-again : tie.Need-loop-again Inv-loop μ-loop
 loop-again c =
@@ -68,7 +68,7 @@ loop-again c =
     let x = start .args in
     let l = c .before .before .before .before .before .before .before .loop in
     let d = chip (x .flash .now) (x .spare .now) in
-    let found = c .next-place2 .ensures in
+    let found = c .next-index2 .ensures in
     let here : l .place < length (x .writes .now) = c .before .before .before .before .before .before .loop-test .taken in
     let inside = listed (body (x .z)) (x .order .now) (start .pre .1 .0 .1) (l .place) (omega (arith, here, start .pre .1 .0 .0)) in (
       found .0 .high,
@@ -103,13 +103,13 @@ lay-logs-spec =
     (tie.spec
     Inv-loop
     μ-loop
-    next-place-requires
+    next-index-requires
     loop-holds
     shared-slice-read-merge-range
     cast-merge-range
     merge-range-requires
-    add-next-place
-    next-place-requires-2
+    add-next-index
+    next-index-requires-2
     loop-less
     loop-again
     same-length

@@ -10,24 +10,24 @@ use borrow.Author.Needs.{needs}
 use Rattle.lists.proofs.Arrays.{take-used}
 use Rattle.model.specs.State.{holds}
 use Rattle.model.specs.declared.Entry.{Entry}
-use Rattle.queue.proofs.Laws.{holds-place, cache-place}
-use Rattle.queue.specs.View.{entriesOf, noEntry, placeOf}
+use Rattle.queue.proofs.Laws.{holds-index, cache-index}
+use Rattle.queue.specs.View.{entriesOf, noEntry, indexOf}
 use Rattle.queue.proofs.Queue.find.Statement.{statement}
 use Rattle.queue.proofs.Queue.find.Tie as tie
 
 used-requires : tie.Need-used-requires
 used-requires c κs = search needs
 
-place-requires : tie.Need-place-requires
-place-requires c κs = search needs
+index-of-requires : tie.Need-index-of-requires
+index-of-requires c κs = search needs
 
 returns : tie.Need-returns
 returns c = let x = c .before .before .before .before .args in
     let u = c .before .before .before .used in
-    let e : c .before .place .result ≡ placeOf (x .b) (entriesOf (x .self)) =
-    c .before .place .ensures ∙ (zero-add _ ∙ ap (placeOf (x .b)) (take-used (u .result) (x .self .len) (x .self .items) (u .ensures .0))) in
-    let n : holds (x .b) (entriesOf (x .self)) ≡ false = holds-place (x .b) (entriesOf (x .self)) ∙ le-ltb (placeOf (x .b) (entriesOf (x .self))) _ (omega arith) in
-    (sym n, sym (cache-place (x .b) (entriesOf (x .self)) ∙ ap (λ (e : Entry). e .cache) (List·getD-eq-default (entriesOf (x .self)) noEntry {n = placeOf (x .b) (entriesOf (x .self))} (omega arith))))
+    let e : c .before .index-of .result ≡ indexOf (x .b) (entriesOf (x .self)) =
+    c .before .index-of .ensures ∙ (zero-add _ ∙ ap (indexOf (x .b)) (take-used (u .result) (x .self .len) (x .self .items) (u .ensures .0))) in
+    let n : holds (x .b) (entriesOf (x .self)) ≡ false = holds-index (x .b) (entriesOf (x .self)) ∙ le-ltb (indexOf (x .b) (entriesOf (x .self))) _ (omega arith) in
+    (sym n, sym (cache-index (x .b) (entriesOf (x .self)) ∙ ap (λ (e : Entry). e .cache) (List·getD-eq-default (entriesOf (x .self)) noEntry {n = indexOf (x .b) (entriesOf (x .self))} (omega arith))))
 
 mul-e : tie.Need-mul-e
 mul-e c = search needs
@@ -38,12 +38,12 @@ array-copy-out-e c = search needs
 returns-2 : tie.Need-returns-2
 returns-2 c = let x = c .before .before .before .before .before .args in
     let u = c .before .before .before .before .used in
-    let e : c .before .before .place .result ≡ placeOf (x .b) (entriesOf (x .self)) =
-    c .before .before .place .ensures ∙ (zero-add _ ∙ ap (placeOf (x .b)) (take-used (u .result) (x .self .len) (x .self .items) (u .ensures .0))) in
-    let h : c .before .before .place .result < x .self .len = omega (arith, length-take (x .self .len) (x .self .items)) in
-    let n : holds (x .b) (entriesOf (x .self)) ≡ true = holds-place (x .b) (entriesOf (x .self)) ∙ lt-ltb (placeOf (x .b) (entriesOf (x .self))) _ (omega arith) in
-    (sym n, rw (cache-place (x .b) (entriesOf (x .self)), ← e) (ap (λ (e : Entry). e .cache) (sym (getD-take (x .self .len) (x .self .items) (c .before .before .place .result) noEntry h))))
+    let e : c .before .before .index-of .result ≡ indexOf (x .b) (entriesOf (x .self)) =
+    c .before .before .index-of .ensures ∙ (zero-add _ ∙ ap (indexOf (x .b)) (take-used (u .result) (x .self .len) (x .self .items) (u .ensures .0))) in
+    let h : c .before .before .index-of .result < x .self .len = omega (arith, length-take (x .self .len) (x .self .items)) in
+    let n : holds (x .b) (entriesOf (x .self)) ≡ true = holds-index (x .b) (entriesOf (x .self)) ∙ lt-ltb (indexOf (x .b) (entriesOf (x .self))) _ (omega arith) in
+    (sym n, rw (cache-index (x .b) (entriesOf (x .self)), ← e) (ap (λ (e : Entry). e .cache) (sym (getD-take (x .self .len) (x .self .items) (c .before .before .index-of .result) noEntry h))))
 
 pub find-spec : {M : Type 1} → statement M
 find-spec =
-    tie.close (tie.spec used-requires place-requires returns mul-e array-copy-out-e returns-2)
+    tie.close (tie.spec used-requires index-of-requires returns mul-e array-copy-out-e returns-2)

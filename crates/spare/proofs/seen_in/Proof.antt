@@ -1,8 +1,8 @@
 use mathlib.Core.Path.{sym, _∙_}
 use borrow.Author.Needs.{needs}
 use Rattle.spare.specs.Fields.{seen}
-use Rattle.spare.proofs.look.Statement.{statement}
-use Rattle.spare.proofs.look.Tie as tie
+use Rattle.spare.proofs.seen_in.Statement.{statement}
+use Rattle.spare.proofs.seen_in.Tie as tie
 
 is-blank-requires : tie.Need-is-blank-requires
 is-blank-requires c κs = search needs
@@ -18,5 +18,5 @@ returns-2 : tie.Need-returns-2
 unfolding seen
 returns-2 c = rw (sym (c .before .before .is-blank .ensures) ∙ c .before .if1 .left, c .decode .ensures)
 
-pub look-spec : {M : Type 1} → statement M
-look-spec = tie.close (tie.spec is-blank-requires returns decode-requires returns-2)
+pub seen-in-spec : {M : Type 1} → statement M
+seen-in-spec = tie.close (tie.spec is-blank-requires returns decode-requires returns-2)

@@ -5,8 +5,8 @@ use borrow.Author.Needs.{needs}
 use borrow.Author.Tests.{ne-eqb}
 use Rattle.rescue.specs.Beside.{Passed}
 use Rattle.rescue.proofs.Places.{passed-one}
-use Rattle.rescue.proofs.next_place.Statement.{statement}
-use Rattle.rescue.proofs.next_place.Tie as tie
+use Rattle.rescue.proofs.next_index.Statement.{statement}
+use Rattle.rescue.proofs.next_index.Tie as tie
 
 abbrev Inv-loop : tie.InvT-loop
 Inv-loop x column from at₀ at = Passed x column from at
@@ -44,8 +44,8 @@ loop-again c =
 returns-2 : tie.Need-returns-2 Inv-loop μ-loop
 returns-2 c = (c .before .loop .inv, λ h. absurd (omega arith))
 
-pub next-place-spec : {M : Type 1} → statement M
-next-place-spec =
+pub next-index-spec : {M : Type 1} → statement M
+next-index-spec =
     tie.close
     (tie.spec
     Inv-loop

@@ -4,8 +4,8 @@ use Rattle.lists.proofs.Rows.{count-le}
 use Rattle.image.specs.Chip.{spareOnly}
 use native.Mathlib.Omega.{arith}
 use borrow.Author.Needs.{needs}
-use Rattle.recover.proofs.place.Statement.{statement}
-use Rattle.recover.proofs.place.Tie as tie
+use Rattle.recover.proofs.entry_of.Statement.{statement}
+use Rattle.recover.proofs.entry_of.Tie as tie
 
 back-of-requires : tie.Need-back-of-requires
 back-of-requires c κs = search needs
@@ -34,8 +34,8 @@ returns-2 : tie.Need-returns-2
 unfolding keptRead
 returns-2 c = rw (c .before .if1 .left, c .entry2 .ensures, c .before .before .back-of .ensures)
 
-pub place-spec : {M : Type 1} → statement M
-place-spec =
+pub entry-of-spec : {M : Type 1} → statement M
+entry-of-spec =
     tie.close
     (tie.spec
     back-of-requires

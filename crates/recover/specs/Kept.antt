@@ -1,4 +1,4 @@
--- Places in the recovered queues.
+-- What the recovered queues keep.
 use Prim.Native.Nat.{ℕ}
 use mathlib.Core.Bool.{Bool, true, false}
 use mathlib.Core.List.{List, [], _∷_}
@@ -10,10 +10,10 @@ use Rattle.model.specs.Sizes.{Device}
 use Rattle.model.specs.Recover.{keptRead, keptWrite}
 use Rattle.classes.specs.Columns.{isNamed}
 
--- in the write queue, where blank pages are counted, or in the read queue
-abbrev pub place : Sizes → Device → Bool → ℕ → Entry
-place z d true = keptWrite z d
-place z d false = keptRead z d
+-- a bucket's entry in the write queue, where blank pages are counted, or in the read queue
+abbrev pub entryOf : Sizes → Device → Bool → ℕ → Entry
+entryOf z d true = keptWrite z d
+entryOf z d false = keptRead z d
 
 -- the buckets of an order beside which the column names a back-end bucket
 unfoldable pub picked : (column order : List ℕ) → List ℕ

@@ -1,5 +1,5 @@
 use Rattle.recover.proofs.Queues.{differing-more, differing-room}
-use Rattle.recover.specs.Places.{place, differing}
+use Rattle.recover.specs.Kept.{entryOf, differing}
 use Rattle.image.specs.Chip.{spareOnly}
 use Rattle.model.proofs.Limits.{on-chip}
 use Rattle.model.specs.State.{isBelow}
@@ -17,11 +17,11 @@ use Prim.Native.Nat.{_≤_, _<_, _-_}
 use native.Mathlib.Numerals.{add-one}
 use native.Mathlib.Omega.{arith}
 use borrow.Author.Needs.{needs}
-use Rattle.recover.proofs.placed.Statement.{statement}
-use Rattle.recover.proofs.placed.Tie as tie
+use Rattle.recover.proofs.kept_queue.Statement.{statement}
+use Rattle.recover.proofs.kept_queue.Tie as tie
 
 abbrev Inv-loop : tie.InvT-loop
-Inv-loop z order column dropped counted spare items₀ n₀ i₀ items n i = (i ≤ length order) × (length column ≡ length order) × (length dropped ≡ length order) × (length items ≡ 64) × (length (differing column dropped order) ≤ 64) × (n ≡ length (differing (take i column) (take i dropped) (take i order))) × (take n items ≡ map (place z (spareOnly spare) counted) (differing (take i column) (take i dropped) (take i order)))
+Inv-loop z order column dropped counted spare items₀ n₀ i₀ items n i = (i ≤ length order) × (length column ≡ length order) × (length dropped ≡ length order) × (length items ≡ 64) × (length (differing column dropped order) ≤ 64) × (n ≡ length (differing (take i column) (take i dropped) (take i order))) × (take n items ≡ map (entryOf z (spareOnly spare) counted) (differing (take i column) (take i dropped) (take i order)))
 
 abbrev μ-loop : tie.MeasureT-loop
 μ-loop z order column dropped counted spare items₀ n₀ i₀ items n i = length order - i
@@ -45,12 +45,12 @@ mul-if1-2 c = search needs
 shared-slice-read-if1-2 : tie.Need-shared-slice-read-if1-2 Inv-loop μ-loop
 shared-slice-read-if1-2 c = omega arith
 
-shared-slice-read-place : tie.Need-shared-slice-read-place Inv-loop μ-loop
-shared-slice-read-place c = omega arith
+shared-slice-read-entry-of : tie.Need-shared-slice-read-entry-of Inv-loop μ-loop
+shared-slice-read-entry-of c = omega arith
 
-place-requires : tie.Need-place-requires Inv-loop μ-loop
+entry-of-requires : tie.Need-entry-of-requires Inv-loop μ-loop
 unfolding isBelow
-place-requires c κs = let s = c .before .before .before .before .before .before .before .before .before .before .before .before in let l = c .before .before .before .before .before .loop in
+entry-of-requires c κs = let s = c .before .before .before .before .before .before .before .before .before .before .before .before in let l = c .before .before .before .before .before .loop in
     (s .pre .0, on-chip (s .args .z) (getD (s .args .order .now) (l .i) 0) (ltb-true _ (body (s .args .z)) (all-at (isBelow (body (s .args .z))) (s .args .order .now) (s .pre .1 .0) (l .i) 0 (c .before .before .before .before .loop-test .taken))))
 
 mul-items : tie.Need-mul-items Inv-loop μ-loop
@@ -76,7 +76,7 @@ loop-again c = let l = c .before .before .before .before .loop in let x = c .bef
     let m = x .column .now in
     let n = x .dropped .now in
     let o = x .order .now in
-    let f = place (x .z) (spareOnly (x .spare .now)) (x .counted) in
+    let f = entryOf (x .z) (spareOnly (x .spare .now)) (x .counted) in
     let inside : l .i < length o = c .before .before .before .loop-test .taken in
     let done = differing (take (l .i) m) (take (l .i) n) (take (l .i) o) in
     ⊎-elim
@@ -103,8 +103,8 @@ returns : tie.Need-returns Inv-loop μ-loop
 returns c = let l = c .before .loop in let x = c .before .before .before .before .before .before .before .before .args in
     l .inv .6 ∙ rw (take-all (l .i) (x .column .now) (omega (arith, l .inv .1)), take-all (l .i) (x .dropped .now) (omega (arith, l .inv .2)), take-all (l .i) (x .order .now) (omega arith))
 
-pub placed-spec : {M : Type 1} → statement M
-placed-spec =
+pub kept-queue-spec : {M : Type 1} → statement M
+kept-queue-spec =
     tie.close
     (tie.spec
     Inv-loop
@@ -115,8 +115,8 @@ placed-spec =
     shared-slice-read-if1
     mul-if1-2
     shared-slice-read-if1-2
-    shared-slice-read-place
-    place-requires
+    shared-slice-read-entry-of
+    entry-of-requires
     mul-items
     array-set-from-items
     add-n

@@ -2,8 +2,8 @@ use borrow.Author.Needs.{needs}
 use native.Mathlib.Omega.{arith}
 use Rattle.model.specs.Sizes.{bucketSize}
 use Rattle.geometry.proofs.Passed.{products}
-use Rattle.drain.proofs.write_units.Statement.{statement}
-use Rattle.drain.proofs.write_units.Tie as tie
+use Rattle.drain.proofs.write_drained.Statement.{statement}
+use Rattle.drain.proofs.write_drained.Tie as tie
 
 mul-size : tie.Need-mul-size
 mul-size c = omega (arith, products (c .before .before .before .before .before .before .pre .1 .drains .orderly .limits))
@@ -40,8 +40,8 @@ same-length-6 c = search needs
 returns-2 : tie.Need-returns-2
 returns-2 c = c .before .before .before .before .before .before .write-large .ensures
 
-pub write-units-spec : {M : Type 1} → statement M
-write-units-spec =
+pub write-drained-spec : {M : Type 1} → statement M
+write-drained-spec =
     tie.close
     (tie.spec
     mul-size
