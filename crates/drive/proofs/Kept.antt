@@ -55,6 +55,5 @@ module _ (r : Recorder) (ready : Ready (r .formatted) (r .sizes)) where
       go true e true g = rw (format-asked r line e g) (format-ready (bytesOf line))
       go true e false g = rw (call-asked r line e g) (call-ready (bytesOf line))
 
-  -- what a line leaves, ready, and a fact of its own beside it
-  pub kept-ready : (line : List ℕ) {p : Printed} {A : Type 0} → p ≡ onLine r line → A → (p ≡ onLine r line) × (Ready (p .recorder .formatted) (p .recorder .sizes) × A)
-  kept-ready line e inside = (e, (rw e (line-ready line), inside))
+  pub kept-ready : (line : List ℕ) {p : Printed} → p ≡ onLine r line → Ready (p .recorder .formatted) (p .recorder .sizes)
+  kept-ready line e = rw e (line-ready line)

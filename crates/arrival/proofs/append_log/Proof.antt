@@ -24,7 +24,9 @@ epoch-of-requires c κs = search needs
 
 pages-for-requires : tie.Need-pages-for-requires
 unfolding bucketSize
-pages-for-requires c κs = let appends = c .before .before .before .before .before .before .before .before .before .before .pre .1 in
+pages-for-requires c κs =
+    let start = c .before .before .before .before .before .before .before .before .before .before in
+    let appends = start .pre .1 in
     (appends .limits, omega (arith, appends .room, products (appends .limits)))
 
 sub-first : tie.Need-sub-first
@@ -32,25 +34,31 @@ sub-first c = let a = c .before .before .before .before .before .before .before 
     omega (arith, c .before .before .before .before .blanks .ensures, blanks-most (a .s .sizes) (spareOnly (a .spare .now)) (c .before .before .before .before .before .before .cache-of .result))
 
 sub-priority : tie.Need-sub-priority
-sub-priority c = let a = c .before .before .before .before .before .before .before .before .before .before .before .before .args in
-    omega (arith, c .before .pages-for .ensures, c .before .before .before .before .blanks .ensures, ap (blanks (a .s .sizes) (spareOnly (a .spare .now))) (c .before .before .before .before .before .before .cache-of .ensures), c .before .before .before .before .before .before .before .before .before .before .before .before .pre .1 .pages)
+sub-priority c =
+    let start = c .before .before .before .before .before .before .before .before .before .before .before .before in
+    let a = c .before .before .before .before .before .before .before .before .before .before .before .before .args in
+    omega (arith, c .before .pages-for .ensures, c .before .before .before .before .blanks .ensures, ap (blanks (a .s .sizes) (spareOnly (a .spare .now))) (c .before .before .before .before .before .before .cache-of .ensures), start .pre .1 .pages)
 
 cast-priority : tie.Need-cast-priority
-cast-priority c = let a = c .before .before .before .before .before .before .before .before .before .before .before .before .args in
-    omega (arith, c .before .before .before .before .blanks .ensures, blanks-most (a .s .sizes) (spareOnly (a .spare .now)) (c .before .before .before .before .before .before .cache-of .result), c .before .before .before .before .before .before .before .before .before .before .before .before .pre .1 .limits .p-high)
+cast-priority c =
+    let start = c .before .before .before .before .before .before .before .before .before .before .before .before in
+    let a = c .before .before .before .before .before .before .before .before .before .before .before .before .args in
+    omega (arith, c .before .before .before .before .blanks .ensures, blanks-most (a .s .sizes) (spareOnly (a .spare .now)) (c .before .before .before .before .before .before .cache-of .result), start .pre .1 .limits .p-high)
 
 program-log-requires : tie.Need-program-log-requires
-program-log-requires c κs = let start = c .before .before .before .before .before .before .before .before .before .before .before .before .before .before .before in
+program-log-requires c κs =
+    let cache-of = c .before .before .before .before .before .before .before .before .before .cache-of in
+    let start = c .before .before .before .before .before .before .before .before .before .before .before .before .before .before .before in
     let a = start .args in
     let appends = start .pre .1 in
     let chip = spareOnly (a .spare .now) in
-    let same : blanks (a .s .sizes) chip (c .before .before .before .before .before .before .before .before .before .cache-of .result) ≡ _ = ap (blanks (a .s .sizes) chip) (c .before .before .before .before .before .before .before .before .before .cache-of .ensures) in (
+    let same : blanks (a .s .sizes) chip (cache-of .result) ≡ _ = ap (blanks (a .s .sizes) chip) (cache-of .ensures) in (
       start .pre .0,
       record {
         limits = appends .limits;
-        bucket = omega (arith, c .before .before .before .before .before .before .before .before .before .cache-of .ensures, appends .bucket);
+        bucket = omega (arith, cache-of .ensures, appends .bucket);
         some = appends .some;
-        room = omega (arith, c .before .before .before .before .before .before .before .blanks .ensures, same, appends .pages, blanks-most (a .s .sizes) chip (c .before .before .before .before .before .before .before .before .before .cache-of .result));
+        room = omega (arith, c .before .before .before .before .before .before .before .blanks .ensures, same, appends .pages, blanks-most (a .s .sizes) chip (cache-of .result));
       },
     )
 
@@ -67,10 +75,15 @@ same-length-3 : tie.Need-same-length-3
 same-length-3 c = search needs
 
 returns : tie.Need-returns
-returns c = let a = c .before .before .before .before .before .before .before .before .before .before .before .before .before .before .before .before .before .before .before .before .before .before .before .args in
+returns c =
+    let cache-of = c .before .before .before .before .before .before .before .before .before .before .before .before .before .before .before .before .before .cache-of in
+    let blanks-then = c .before .before .before .before .before .before .before .before .before .before .before .before .before .before .before .blanks in
+    let epoch-of = c .before .before .before .before .before .before .before .before .before .before .before .before .before .epoch-of in
+    let pages-for = c .before .before .before .before .before .before .before .before .before .before .before .before .pages-for in
+    let a = c .before .before .before .before .before .before .before .before .before .before .before .before .before .before .before .before .before .before .before .before .before .before .before .args in
     let written = c .before .before .before .before .before .before .before .program-log .ensures in (
       rw (written .0, c .accept .ensures)
-          (appended-by (a .s .sizes) (a .b) (a .offset) (a .bytes .now) (placesOf (a .s)) _ (c .before .before .before .before .before .before .before .before .before .before .before .before .before .before .before .before .before .cache-of .result) (c .before .before .before .before .before .before .before .before .before .before .before .before .before .before .before .blanks .result) (c .before .before .before .before .before .before .before .before .before .before .before .before .before .epoch-of .result) (c .before .before .before .before .before .before .before .before .before .before .before .before .pages-for .result) (c .before .before .before .before .before .before .before .before .before .before .before .before .before .before .before .before .before .cache-of .ensures) (c .before .before .before .before .before .before .before .before .before .before .before .before .before .before .before .blanks .ensures) (c .before .before .before .before .before .before .before .before .before .before .before .before .before .epoch-of .ensures) (c .before .before .before .before .before .before .before .before .before .before .before .before .pages-for .ensures)),
+          (appended-by (a .s .sizes) (a .b) (a .offset) (a .bytes .now) (placesOf (a .s)) _ (cache-of .result) (blanks-then .result) (epoch-of .result) (pages-for .result) (cache-of .ensures) (blanks-then .ensures) (epoch-of .ensures) (pages-for .ensures)),
       written .1,
     )
 

@@ -36,7 +36,9 @@ fresh-log-requires c κs = let start = c .before .before .before .before .before
     (start .pre .0, rw (c .before .before .before .room-of .ensures) (takes (a .s .sizes) (placesOf (a .s)) (device (a .flash .now) (a .spare .now) (a .disk .now)) (start .pre .1 .fresh)))
 
 roomed-requires : tie.Need-roomed-requires
-roomed-requires c κs = c .before .before .before .before .before .before .before .before .before .before .before .before .before .before .before .before .before .before .pre .1 .fresh .ready .orderly .bounded
+roomed-requires c κs =
+    let start = c .before .before .before .before .before .before .before .before .before .before .before .before .before .before .before .before .before .before in
+    start .pre .1 .fresh .ready .orderly .bounded
 
 take-write-requires : tie.Need-take-write-requires
 take-write-requires c κs = let start = c .before .before .before .before .before .before .before .before .before .before .before .before .before .before .before .before .before .before .before in
@@ -57,13 +59,16 @@ same-length-3 : tie.Need-same-length-3
 same-length-3 c = search needs
 
 returns : tie.Need-returns
-returns c = let start = c .before .before .before .before .before .before .before .before .before .before .before .before .before .before .before .before .before .before .before .before .before in
+returns c =
+    let fresh-log = c .before .before .before .before .before .before .before .before .before .fresh-log in
+    let room-of = c .before .before .before .before .before .before .before .before .before .before .before .before .before .room-of in
+    let start = c .before .before .before .before .before .before .before .before .before .before .before .before .before .before .before .before .before .before .before .before .before in
     let a = start .args in
     let r = running (a .flash .now) (a .spare .now) (a .disk .now) (a .meter) in
-    let logged = c .before .before .before .before .before .before .before .before .before .fresh-log .ensures in
+    let logged = fresh-log .ensures in
     let pages = c .before .before .before .before .before .before .before .before .before .before .before .before .before .before .before .pages-for in (
       rw (c .accept .ensures, c .before .take-write .ensures)
-          (started-by (a .s .sizes) (placesOf (a .s)) r (start .pre .1 .fresh .ready) (a .b) (a .offset) (a .bytes .now) (pages .result) (rw (c .before .before .before .before .before .before .before .before .before .before .before .before .before .room-of .ensures) at (logged .0)) (c .before .before .roomed .ensures (r .device)) (pages .ensures)),
+          (started-by (a .s .sizes) (placesOf (a .s)) r (start .pre .1 .fresh .ready) (a .b) (a .offset) (a .bytes .now) (pages .result) (rw (room-of .ensures) at (logged .0)) (c .before .before .roomed .ensures (r .device)) (pages .ensures)),
       logged .1,
     )
 

@@ -91,9 +91,11 @@ same-length-3 c = search needs
 
 returns-2 : tie.Need-returns-2
 unfolding lentBuffer callFrom allowanceOf
-returns-2 c = let start = c .before .before .before .before .before .before .before .before .before .before .before .before .before .before .before .before .before .before .before in
+returns-2 c =
+    let request = c .before .before .before .before .before .before .before .before .before .before .before .before .request in
+    let start = c .before .before .before .before .before .before .before .before .before .before .before .before .before .before .before .before .before .before .before in
     let a = start .args in
-    let e = sym (c .before .before .before .before .before .before .before .before .before .before .before .before .request .given .1) ∙ start .pre .0 .1 in
+    let e = sym (request .given .1) ∙ start .pre .0 .1 in
     rw (c .unread2 .ensures .0, c .unread2 .ensures .1) (asked-made (a .line .now) (start .pre .0 .0) e (a .z) (a .s) (device (a .flash .now) (a .spare .now) (a .disk .now)) refl (ap seen (c .before .before .before .before .before .before .before .format .ensures)))
 
 same-length-4 : tie.Need-same-length-4
@@ -110,10 +112,13 @@ same-length-7 c = search needs
 
 returns-3 : tie.Need-returns-3
 unfolding lentBuffer callFrom allowanceOf
-returns-3 c = let start = c .before .before .before .before .before .before .before .before .before .before .before .before .before .before .before .before .before .before .before .before .before in
+returns-3 c =
+    let read-call = c .before .before .before .before .before .before .before .before .read-call in
+    let request2 = c .before .before .before .before .before .before .before .before .before .before .before .before .before .before .request2 in
+    let start = c .before .before .before .before .before .before .before .before .before .before .before .before .before .before .before .before .before .before .before .before .before in
     let a = start .args in
-    let made = c .before .before .before .before .before .before .before .before .read-call .ensures in
-    asked-made (a .line .now) (start .pre .0 .0) (sym (c .before .before .before .before .before .before .before .before .before .before .before .before .before .before .request2 .given .1) ∙ start .pre .0 .1) (a .z) (a .s) (device (a .flash .now) (a .spare .now) (a .disk .now)) (made .1 ∙ sym (length-replicate (c .before .before .before .before .before .before .before .before .before .before .before .before .before .before .request2 .given .0 .1 .1 .1 .0) 0)) (made .0)
+    let made = read-call .ensures in
+    asked-made (a .line .now) (start .pre .0 .0) (sym (request2 .given .1) ∙ start .pre .0 .1) (a .z) (a .s) (device (a .flash .now) (a .spare .now) (a .disk .now)) (made .1 ∙ sym (length-replicate (request2 .given .0 .1 .1 .1 .0) 0)) (made .0)
 
 same-length-8 : tie.Need-same-length-8
 same-length-8 c = search needs
@@ -129,10 +134,13 @@ same-length-11 c = search needs
 
 returns-4 : tie.Need-returns-4
 unfolding lentBuffer callFrom allowanceOf
-returns-4 c = let start = c .before .before .before .before .before .before .before .before .before .before .before .before .before .before .before .before .before .before .before .before .before .before in
+returns-4 c =
+    let request3 = c .before .before .before .before .before .before .before .before .before .before .before .before .before .before .before .request3 in
+    let write-call = c .before .before .before .before .before .before .before .before .before .write-call in
+    let start = c .before .before .before .before .before .before .before .before .before .before .before .before .before .before .before .before .before .before .before .before .before .before in
     let a = start .args in
-    let e = sym (c .before .before .before .before .before .before .before .before .before .before .before .before .before .before .before .request3 .given .1) ∙ start .pre .0 .1 in
-    rw (c .unread3 .ensures .0, c .unread3 .ensures .1) (asked-made (a .line .now) (start .pre .0 .0) e (a .z) (a .s) (device (a .flash .now) (a .spare .now) (a .disk .now)) refl (ap seen (c .before .before .before .before .before .before .before .before .before .write-call .ensures)))
+    let e = sym (request3 .given .1) ∙ start .pre .0 .1 in
+    rw (c .unread3 .ensures .0, c .unread3 .ensures .1) (asked-made (a .line .now) (start .pre .0 .0) e (a .z) (a .s) (device (a .flash .now) (a .spare .now) (a .disk .now)) refl (ap seen (write-call .ensures)))
 
 same-length-12 : tie.Need-same-length-12
 same-length-12 c = search needs
@@ -145,9 +153,11 @@ same-length-14 c = search needs
 
 returns-5 : tie.Need-returns-5
 unfolding lentBuffer callFrom allowanceOf
-returns-5 c = let start = c .before .before .before .before .before .before .before .before .before .before .before .before .before .before .before .before .before .before .before in
+returns-5 c =
+    let request4 = c .before .before .before .before .before .before .before .before .before .before .before .before .request4 in
+    let start = c .before .before .before .before .before .before .before .before .before .before .before .before .before .before .before .before .before .before .before in
     let a = start .args in
-    let e = sym (c .before .before .before .before .before .before .before .before .before .before .before .before .request4 .given .1) ∙ start .pre .0 .1 in
+    let e = sym (request4 .given .1) ∙ start .pre .0 .1 in
     rw (c .unread4 .ensures .0, c .unread4 .ensures .1) (asked-made (a .line .now) (start .pre .0 .0) e (a .z) (a .s) (device (a .flash .now) (a .spare .now) (a .disk .now)) refl (ap seen (c .before .before .before .before .before .before .before .erase-step .ensures)))
 
 same-length-15 : tie.Need-same-length-15
@@ -161,9 +171,11 @@ same-length-17 c = search needs
 
 returns-6 : tie.Need-returns-6
 unfolding lentBuffer callFrom allowanceOf
-returns-6 c = let start = c .before .before .before .before .before .before .before .before .before .before .before .before .before .before .before .before .before .before .before in
+returns-6 c =
+    let request5 = c .before .before .before .before .before .before .before .before .before .before .before .before .request5 in
+    let start = c .before .before .before .before .before .before .before .before .before .before .before .before .before .before .before .before .before .before .before in
     let a = start .args in
-    let e = sym (c .before .before .before .before .before .before .before .before .before .before .before .before .request5 .given .1) ∙ start .pre .0 .1 in
+    let e = sym (request5 .given .1) ∙ start .pre .0 .1 in
     rw (c .unread5 .ensures .0, c .unread5 .ensures .1) (asked-made (a .line .now) (start .pre .0 .0) e (a .z) (a .s) (device (a .flash .now) (a .spare .now) (a .disk .now)) refl (ap seen (c .before .before .before .before .before .before .before .drain .ensures)))
 
 same-length-18 : tie.Need-same-length-18
@@ -177,9 +189,11 @@ same-length-20 c = search needs
 
 returns-7 : tie.Need-returns-7
 unfolding lentBuffer callFrom allowanceOf
-returns-7 c = let start = c .before .before .before .before .before .before .before .before .before .before .before .before .before .before .before .before .before .before .before in
+returns-7 c =
+    let request6 = c .before .before .before .before .before .before .before .before .before .before .before .before .request6 in
+    let start = c .before .before .before .before .before .before .before .before .before .before .before .before .before .before .before .before .before .before .before in
     let a = start .args in
-    let e = sym (c .before .before .before .before .before .before .before .before .before .before .before .before .request6 .given .1) ∙ start .pre .0 .1 in
+    let e = sym (request6 .given .1) ∙ start .pre .0 .1 in
     rw (c .unread6 .ensures .0, c .unread6 .ensures .1) (asked-made (a .line .now) (start .pre .0 .0) e (a .z) (a .s) (device (a .flash .now) (a .spare .now) (a .disk .now)) refl (ap seen (c .before .before .before .before .before .before .before .recover .ensures)))
 
 pub make-spec : {M : Type 1} → statement M

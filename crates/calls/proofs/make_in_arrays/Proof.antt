@@ -18,37 +18,55 @@ mul-flash-size : tie.Need-mul-flash-size
 mul-flash-size c = omega (arith, products (c .before .before .before .before .before .before .before .pre .1 .1 .1 .limits))
 
 mul-spare-size : tie.Need-mul-spare-size
-mul-spare-size c = omega (arith, products (c .before .before .before .before .before .before .before .before .pre .1 .1 .1 .limits))
+mul-spare-size c =
+    let start = c .before .before .before .before .before .before .before .before in
+    omega (arith, products (start .pre .1 .1 .1 .limits))
 
 mul-spare-size-2 : tie.Need-mul-spare-size-2
-mul-spare-size-2 c = omega (arith, products (c .before .before .before .before .before .before .before .before .pre .1 .1 .1 .limits))
+mul-spare-size-2 c =
+    let start = c .before .before .before .before .before .before .before .before in
+    omega (arith, products (start .pre .1 .1 .1 .limits))
 
 mul-disk-size : tie.Need-mul-disk-size
-mul-disk-size c = omega (arith, products (c .before .before .before .before .before .before .before .before .before .pre .1 .1 .1 .limits))
+mul-disk-size c =
+    let start = c .before .before .before .before .before .before .before .before .before in
+    omega (arith, products (start .pre .1 .1 .1 .limits))
 
 slice-relend-prefix-make : tie.Need-slice-relend-prefix-make
 unfolding bucketSize flashSize
-slice-relend-prefix-make c = omega (arith, c .before .before .before .before .before .before .before .before .before .before .pre .1 .1 .0 .flash-length, c .before .before .before .before .before .before .before .before .before .before .pre .1 .1 .1 .flash-room)
+slice-relend-prefix-make c =
+    let start = c .before .before .before .before .before .before .before .before .before .before in
+    omega (arith, start .pre .1 .1 .0 .flash-length, start .pre .1 .1 .1 .flash-room)
 
 slice-aggregate-make : tie.Need-slice-aggregate-make
 unfolding bucketSize flashSize
-slice-aggregate-make c = simp length-take (omega (arith, c .before .before .before .before .before .before .before .before .before .before .before .pre .1 .1 .0 .flash-length, c .before .before .before .before .before .before .before .before .before .before .before .pre .1 .1 .1 .flash-room))
+slice-aggregate-make c =
+    let start = c .before .before .before .before .before .before .before .before .before .before .before in
+    simp length-take (omega (arith, start .pre .1 .1 .0 .flash-length, start .pre .1 .1 .1 .flash-room))
 
 slice-relend-prefix-make-2 : tie.Need-slice-relend-prefix-make-2
 unfolding spareSize
-slice-relend-prefix-make-2 c = omega (arith, c .before .before .before .before .before .before .before .before .before .before .before .pre .1 .1 .0 .spare-length, c .before .before .before .before .before .before .before .before .before .before .before .pre .1 .1 .1 .spare-room)
+slice-relend-prefix-make-2 c =
+    let start = c .before .before .before .before .before .before .before .before .before .before .before in
+    omega (arith, start .pre .1 .1 .0 .spare-length, start .pre .1 .1 .1 .spare-room)
 
 slice-aggregate-make-2 : tie.Need-slice-aggregate-make-2
 unfolding spareSize
-slice-aggregate-make-2 c = simp length-take (omega (arith, c .before .before .before .before .before .before .before .before .before .before .before .before .pre .1 .1 .0 .spare-length, c .before .before .before .before .before .before .before .before .before .before .before .before .pre .1 .1 .1 .spare-room))
+slice-aggregate-make-2 c =
+    let start = c .before .before .before .before .before .before .before .before .before .before .before .before in
+    simp length-take (omega (arith, start .pre .1 .1 .0 .spare-length, start .pre .1 .1 .1 .spare-room))
 
 slice-relend-prefix-make-3 : tie.Need-slice-relend-prefix-make-3
 unfolding bucketSize diskSize
-slice-relend-prefix-make-3 c = omega (arith, c .before .before .before .before .before .before .before .before .before .before .before .before .pre .1 .1 .0 .disk-length, c .before .before .before .before .before .before .before .before .before .before .before .before .pre .1 .1 .1 .disk-room)
+slice-relend-prefix-make-3 c =
+    let start = c .before .before .before .before .before .before .before .before .before .before .before .before in
+    omega (arith, start .pre .1 .1 .0 .disk-length, start .pre .1 .1 .1 .disk-room)
 
 slice-aggregate-make-3 : tie.Need-slice-aggregate-make-3
 unfolding bucketSize diskSize
-slice-aggregate-make-3 c = simp length-take (omega (arith, c .before .before .before .before .before .before .before .before .before .before .before .before .before .pre .1 .1 .0 .disk-length, c .before .before .before .before .before .before .before .before .before .before .before .before .before .pre .1 .1 .1 .disk-room))
+slice-aggregate-make-3 c =
+    let start = c .before .before .before .before .before .before .before .before .before .before .before .before .before in
+    simp length-take (omega (arith, start .pre .1 .1 .0 .disk-length, start .pre .1 .1 .1 .disk-room))
 
 make-requires : tie.Need-make-requires
 make-requires c κs = search needs
@@ -67,7 +85,9 @@ same-length-4 c = search needs
 
 returns : tie.Need-returns
 unfolding bucketSize flashSize spareSize diskSize lend giveBack inArrays seen
-returns c = let a = c .before .before .before .before .before .before .before .before .before .before .before .before .before .before .before .before .before .before .before .before .before .before .args in (ap (inArrays (a .z) (device (a .flash .now) (a .spare .now) (a .disk .now))) (c .before .before .before .before .before .before .before .before .make .ensures .0), c .before .before .before .before .before .before .before .before .make .ensures .1)
+returns c =
+    let make = c .before .before .before .before .before .before .before .before .make in
+    let a = c .before .before .before .before .before .before .before .before .before .before .before .before .before .before .before .before .before .before .before .before .before .before .args in (ap (inArrays (a .z) (device (a .flash .now) (a .spare .now) (a .disk .now))) (make .ensures .0), make .ensures .1)
 
 pub make-in-arrays-spec : {M : Type 1} → statement M
 make-in-arrays-spec =

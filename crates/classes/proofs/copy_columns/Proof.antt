@@ -37,12 +37,15 @@ same-length-2 : tie.Need-same-length-2
 same-length-2 c = search needs
 
 returns : tie.Need-returns
-returns c = let s = c .before .before .before .before .before .before .before .before .before .before .before .before .before .before .before .before .before .before .before .before .before .before .before in
+returns c =
+    let last-of-each = c .before .before .before .before .before .before .before .before .before .before .before .before .last-of-each in
+    let fill = c .before .before .before .before .before .before .before .before .before .before .before .before .before .before .before .before .fill in
+    let s = c .before .before .before .before .before .before .before .before .before .before .before .before .before .before .before .before .before .before .before .before .before .before .before in
     let z = s .args .z in
     let d = spareOnly (s .args .spare .now) in
     let formed = formed-of z d (s .pre .1 .0) in
     let chosen = last-column z d (s .pre .0 .limits) formed in
-    let copies : c .before .before .before .before .before .before .before .before .before .before .before .before .last-of-each .last .0 ≡ column z d (isChosen z d) = c .before .before .before .before .before .before .before .before .before .before .before .before .last-of-each .ensures ∙ rw (c .before .before .before .before .before .before .before .before .before .before .before .before .before .before .before .before .fill .ensures) chosen in
+    let copies : last-of-each .last .0 ≡ column z d (isChosen z d) = last-of-each .ensures ∙ rw (fill .ensures) chosen in
     (copies, c .before .before .all-but .ensures ∙ rw (c .before .before .before .before .before .before .before .all-occurring .ensures, copies, s .pre .1 .1 .1 .0, absent-column z d (s .pre .0 .limits) formed) (dropped-copy-column z d (s .pre .0 .limits) formed))
 
 pub copy-columns-spec : {M : Type 1} → statement M

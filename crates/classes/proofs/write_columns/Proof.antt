@@ -29,11 +29,13 @@ same-length-2 : tie.Need-same-length-2
 same-length-2 c = search needs
 
 returns : tie.Need-returns
-returns c = let s = c .before .before .before .before .before .before .before .before .before .before .before .before .before .before .before .before .before .before in
+returns c =
+    let fill = c .before .before .before .before .before .before .before .before .before .before .before .before .fill in
+    let s = c .before .before .before .before .before .before .before .before .before .before .before .before .before .before .before .before .before .before in
     let z = s .args .z in
     let d = spareOnly (s .args .spare .now) in
     let formed = formed-of z d (s .pre .1 .0) in
-    let writes = c .before .before .before .before .before .before .before .before .before .before .before .before .fill .ensures in
+    let writes = fill .ensures in
     (writes, c .before .before .all-but .ensures ∙ rw (c .before .before .before .before .before .before .before .all-occurring .ensures, writes, sole-column z d (s .pre .0 .limits) formed) (dropped-write-column z d (s .pre .0 .limits) formed))
 
 pub write-columns-spec : {M : Type 1} → statement M

@@ -34,11 +34,14 @@ same-length-3 : tie.Need-same-length-3
 same-length-3 c = search needs
 
 returns : tie.Need-returns
-returns c = let start = c .before .before .before .before .before .before .before .before .before .before .before .before .before .before .before .before .before in
+returns c =
+    let fresh-log = c .before .before .before .before .before .before .before .before .fresh-log in
+    let room-of = c .before .before .before .before .before .before .before .before .before .before .before .before .room-of in
+    let start = c .before .before .before .before .before .before .before .before .before .before .before .before .before .before .before .before .before in
     let a = start .args in
     let r = running (a .flash .now) (a .spare .now) (a .disk .now) (a .meter) in
-    let logged = c .before .before .before .before .before .before .before .before .fresh-log .ensures in
-    (rw (c .take-copy .ensures) (copied-by (a .s .sizes) (placesOf (a .s)) r (start .pre .1 .ready) (a .kind) (a .b) (a .bytes .now) (rw (c .before .before .before .before .before .before .before .before .before .before .before .before .room-of .ensures) at (logged .0)) (c .before .roomed .ensures (r .device))), logged .1)
+    let logged = fresh-log .ensures in
+    (rw (c .take-copy .ensures) (copied-by (a .s .sizes) (placesOf (a .s)) r (start .pre .1 .ready) (a .kind) (a .b) (a .bytes .now) (rw (room-of .ensures) at (logged .0)) (c .before .roomed .ensures (r .device))), logged .1)
 
 pub copy-spec : {M : Type 1} → statement M
 copy-spec =

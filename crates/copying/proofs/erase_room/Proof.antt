@@ -18,8 +18,10 @@ same-length-3 c = search needs
 
 returns : tie.Need-returns
 unfolding erases runAll
-returns c = let erased = c .before .before .before .before .before .before .erase-bucket .ensures in
-    (rw (c .before .before .before .before .before .before .before .before .before .before .if1 .taken) (erased .0), erased .1)
+returns c =
+    let if1 = c .before .before .before .before .before .before .before .before .before .before .if1 in
+    let erased = c .before .before .before .before .before .before .erase-bucket .ensures in
+    (rw (if1 .taken) (erased .0), erased .1)
 
 returns-2 : tie.Need-returns-2
 unfolding erases runAll

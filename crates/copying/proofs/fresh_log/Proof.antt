@@ -11,9 +11,11 @@ erase-room-requires : tie.Need-erase-room-requires
 erase-room-requires c κs = search needs
 
 program-log-requires : tie.Need-program-log-requires
-program-log-requires c κs = let start = c .before .before .before .before .before .before .before .before .before .before .before .before .before .before .before .before .before in
+program-log-requires c κs =
+    let erase-room = c .before .before .before .before .before .before .before .before .before .erase-room in
+    let start = c .before .before .before .before .before .before .before .before .before .before .before .before .before .before .before .before .before in
     let takes = start .pre .1 in (
-      c .before .before .before .before .before .before .before .before .before .erase-room .ensures .1,
+      erase-room .ensures .1,
       record {
         limits = takes .limits;
         bucket = takes .bucket;
@@ -33,8 +35,10 @@ same-length-3 c = search needs
 
 returns : tie.Need-returns
 unfolding freshStores
-returns c = let written = c .before .before .before .before .before .before .program-log .ensures in
-    (rw (written .0, c .before .before .before .before .before .before .before .before .before .before .before .before .before .before .before .before .erase-room .ensures .0, run-append), written .1)
+returns c =
+    let erase-room = c .before .before .before .before .before .before .before .before .before .before .before .before .before .before .before .before .erase-room in
+    let written = c .before .before .before .before .before .before .program-log .ensures in
+    (rw (written .0, erase-room .ensures .0, run-append), written .1)
 
 pub fresh-log-spec : {M : Type 1} → statement M
 fresh-log-spec =

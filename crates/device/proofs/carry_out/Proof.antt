@@ -36,7 +36,9 @@ same-length-2 c = search needs
 
 returns : tie.Need-returns
 unfolding apply
-returns c = (rw (c .before .before .before .before .before .before .before .before .what .given .1, c .before .before .before .before .program .ensures .0, c .before .before .before .before .program .ensures .1), search needs)
+returns c =
+    let what = c .before .before .before .before .before .before .before .before .what in
+    (rw (what .given .1, c .before .before .before .before .program .ensures .0, c .before .before .before .before .program .ensures .1), search needs)
 
 same-length-3 : tie.Need-same-length-3
 same-length-3 c = search needs
@@ -46,7 +48,9 @@ same-length-4 c = search needs
 
 returns-2 : tie.Need-returns-2
 unfolding apply
-returns-2 c = (rw (c .before .before .before .before .before .before .before .before .what2 .given .1, c .before .before .before .before .erase .ensures .0, c .before .before .before .before .erase .ensures .1), search needs)
+returns-2 c =
+    let what2 = c .before .before .before .before .before .before .before .before .what2 in
+    (rw (what2 .given .1, c .before .before .before .before .erase .ensures .0, c .before .before .before .before .erase .ensures .1), search needs)
 
 same-length-5 : tie.Need-same-length-5
 same-length-5 c = search needs

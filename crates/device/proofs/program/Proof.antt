@@ -64,11 +64,12 @@ same-length-2 c = search needs
 returns : tie.Need-returns
 unfolding pageIndex
 returns c =
+    let start = c .before .before .before .before .before .before .before .before .before .before .before .before .before in
     let a = c .before .before .before .before .before .before .before .before .before .before .before .before .before .args in
     let index = a .bucket * a .z .p + a .page in
     let written = c .before .before .before .before .write-page .ensures in
     let tag-length : length (a .tag .now) ≡ 16 = omega (arith, ap length (written .1), c .before .spare .given, lent-length (a .spare .now) (index * 16) 16 (omega (arith, inside (c .before .before .before .before .before .before .before .before .before .before .before .before .before)))) in
-    (put-back (a .flash .now) (index * a .z .s) (a .z .s) (written .0) (c .before .before .before .before .before .before .before .before .before .before .before .before .before .pre .1 .2), put-back (a .spare .now) (index * 16) 16 (written .1) tag-length)
+    (put-back (a .flash .now) (index * a .z .s) (a .z .s) (written .0) (start .pre .1 .2), put-back (a .spare .now) (index * 16) 16 (written .1) tag-length)
 
 pub program-spec : {M : Type 1} → statement M
 program-spec =

@@ -37,10 +37,12 @@ same-length-3 c = search needs
 
 returns : tie.Need-returns
 unfolding after
-returns c = let a = c .before .before .before .before .before .before .before .before .before .before .before .before .before .before .before .before .before .before .args in
+returns c =
+    let drained = c .before .before .before .before .before .before .before .before .before .before .before .before .before .drained in
+    let a = c .before .before .before .before .before .before .before .before .before .before .before .before .before .before .before .before .before .before .args in
     let d = device (a .flash .now) (a .spare .now) (a .disk .now) in
     let w = c .before .before .before .before .before .before .write-drained .ensures in
-    (rw (w .0, c .before .before .before .before .before .before .before .before .before .before .before .before .before .drained .ensures .0 ∙ same-drained (a .s .sizes) d (placesOf (a .s))), w .1)
+    (rw (w .0, drained .ensures .0 ∙ same-drained (a .s .sizes) d (placesOf (a .s))), w .1)
 
 pub drain-queues-spec : {M : Type 1} → statement M
 drain-queues-spec =

@@ -16,8 +16,11 @@ drain-queues-requires c κs = search needs
 
 finish-requires : tie.Need-finish-requires
 unfolding sizesOf
-finish-requires c κs = let a = c .before .before .before .before .before .before .before .before .before .before .before .before .before .before .before .before .args in
-    step-left (a .allowance) drainCall (a .s) (placesOf (a .s)) (device (a .flash .now) (a .spare .now) (a .disk .now)) (drain (a .s .sizes)) (rw (c .before .before .before .before .before .before .before .before .before .before .before .before .whole .ensures) at (c .before .before .before .before .before .before .before .before .drain-queues .ensures .0))
+finish-requires c κs =
+    let whole = c .before .before .before .before .before .before .before .before .before .before .before .before .whole in
+    let drain-queues = c .before .before .before .before .before .before .before .before .drain-queues in
+    let a = c .before .before .before .before .before .before .before .before .before .before .before .before .before .before .before .before .args in
+    step-left (a .allowance) drainCall (a .s) (placesOf (a .s)) (device (a .flash .now) (a .spare .now) (a .disk .now)) (drain (a .s .sizes)) (rw (whole .ensures) at (drain-queues .ensures .0))
 
 same-length : tie.Need-same-length
 same-length c = search needs
@@ -30,9 +33,12 @@ same-length-3 c = search needs
 
 returns : tie.Need-returns
 unfolding sizesOf doneAnswer lentBuffer readBuffer
-returns c = let a = c .before .before .before .before .before .before .before .before .before .before .before .before .before .before .before .before .before .args in
+returns c =
+    let whole = c .before .before .before .before .before .before .before .before .before .before .before .before .before .whole in
+    let drain-queues = c .before .before .before .before .before .before .before .before .before .drain-queues in
+    let a = c .before .before .before .before .before .before .before .before .before .before .before .before .before .before .before .before .before .args in
     rw (c .finish .ensures)
-    (step-handed (a .allowance) drainCall (a .s) (placesOf (a .s)) (device (a .flash .now) (a .spare .now) (a .disk .now)) (drain (a .s .sizes)) (rw (c .before .before .before .before .before .before .before .before .before .before .before .before .before .whole .ensures) at (c .before .before .before .before .before .before .before .before .before .drain-queues .ensures .0)) refl refl)
+    (step-handed (a .allowance) drainCall (a .s) (placesOf (a .s)) (device (a .flash .now) (a .spare .now) (a .disk .now)) (drain (a .s .sizes)) (rw (whole .ensures) at (drain-queues .ensures .0)) refl refl)
 
 pub drain-whole-spec : {M : Type 1} → statement M
 drain-whole-spec =

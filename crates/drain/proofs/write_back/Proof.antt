@@ -23,8 +23,10 @@ same-length-4 c = search needs
 
 returns : tie.Need-returns
 unfolding drainStores
-returns c = let w = c .before .before .before .before .before .before .write-units .ensures in
-    (rw (c .before .before .before .before .before .before .before .before .before .before .before .before .before .merged-into .ensures) at (w .0), w .1)
+returns c =
+    let merged-into = c .before .before .before .before .before .before .before .before .before .before .before .before .before .merged-into in
+    let w = c .before .before .before .before .before .before .write-units .ensures in
+    (rw (merged-into .ensures) at (w .0), w .1)
 
 pub write-back-spec : {M : Type 1} → statement M
 write-back-spec =

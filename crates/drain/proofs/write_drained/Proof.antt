@@ -14,7 +14,9 @@ write-small-requires c κs = let p = c .before .before .before .before .before .
     (p .0, (p .1, c .before .before .before .if1 .taken))
 
 write-large-requires : tie.Need-write-large-requires
-write-large-requires c κs = (c .before .before .before .before .before .before .before .before .before .before .pre .0, c .before .before .before .before .before .before .before .before .before .before .pre .1)
+write-large-requires c κs =
+    let start = c .before .before .before .before .before .before .before .before .before .before in
+    (start .pre .0, start .pre .1)
 
 same-length : tie.Need-same-length
 same-length c = search needs

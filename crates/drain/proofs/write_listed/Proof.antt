@@ -48,34 +48,50 @@ loop-holds c = let a = c .before .before .before .before .before .before .args i
     )
 
 cast-write-back : tie.Need-cast-write-back Inv-loop μ-loop
-cast-write-back c = omega (arith, c .before .before .before .before .before .before .before .before .pre .1 .0 .drains .orderly .limits .b-high)
+cast-write-back c =
+    let start = c .before .before .before .before .before .before .before .before in
+    omega (arith, start .pre .1 .0 .drains .orderly .limits .b-high)
 
 write-back-requires : tie.Need-write-back-requires Inv-loop μ-loop
-write-back-requires c κs = let p = c .before .before .before .before .before .before .before .before .before .before .before .before .pre in
+write-back-requires c κs =
+    let start = c .before .before .before .before .before .before .before .before .before .before .before .before in
+    let p = c .before .before .before .before .before .before .before .before .before .before .before .before .pre in
     let l = c .before .before .before .before .before .loop in
-    let well : wellFormed (c .before .before .before .before .before .before .before .before .before .before .before .before .args .s .sizes) (spareOnly (l .spare)) ≡ true = rw (l .inv .5 .spare) (p .1 .0 .drains .well-formed) in
+    let well : wellFormed (start .args .s .sizes) (spareOnly (l .spare)) ≡ true = rw (l .inv .5 .spare) (p .1 .0 .drains .well-formed) in
     (sources-of (p .1 .0 .drains .orderly) well (c .before .before .before .before .loop-test .taken) (l .inv .1), l .inv .2)
 
 add-next-of : tie.Need-add-next-of Inv-loop μ-loop
-add-next-of c = omega (arith, c .before .before .before .before .before .before .before .before .before .before .before .before .before .loop-test .taken, c .before .before .before .before .before .before .before .before .before .before .before .before .before .before .before .before .before .before .before .before .before .pre .1 .0 .drains .orderly .limits .b-high)
+add-next-of c =
+    let loop-test = c .before .before .before .before .before .before .before .before .before .before .before .before .before .loop-test in
+    let start = c .before .before .before .before .before .before .before .before .before .before .before .before .before .before .before .before .before .before .before .before .before in
+    omega (arith, loop-test .taken, start .pre .1 .0 .drains .orderly .limits .b-high)
 
 next-of-requires-2 : tie.Need-next-of-requires-2 Inv-loop μ-loop
-next-of-requires-2 c κs = let high = c .before .before .before .before .before .before .before .before .before .before .before .before .before .before .before .before .before .before .before .before .before .pre .1 .0 .drains .orderly .limits .b-high in
-    let below = c .before .before .before .before .before .before .before .before .before .before .before .before .before .loop-test .taken in
+next-of-requires-2 c κs =
+    let start = c .before .before .before .before .before .before .before .before .before .before .before .before .before .before .before .before .before .before .before .before .before in
+    let loop-test = c .before .before .before .before .before .before .before .before .before .before .before .before .before .loop-test in
+    let high = start .pre .1 .0 .drains .orderly .limits .b-high in
+    let below = loop-test .taken in
     (omega (arith, high, below), omega (arith, high))
 
 loop-less : tie.Need-loop-less Inv-loop μ-loop
-loop-less c = let a = c .before .before .before .before .before .before .before .before .before .before .before .before .before .before .before .before .before .before .before .before .before .before .args in
+loop-less c =
+    let loop-test = c .before .before .before .before .before .before .before .before .before .before .before .before .before .before .loop-test in
+    let a = c .before .before .before .before .before .before .before .before .before .before .before .before .before .before .before .before .before .before .before .before .before .before .args in
     let l = c .before .before .before .before .before .before .before .before .before .before .before .before .before .before .before .loop in
-    let h = c .before .before .before .before .before .before .before .before .before .before .before .before .before .before .loop-test .taken in
+    let h = loop-test .taken in
     omega (arith, c .next-of2 .ensures, h, next (l .b + 1) (a .s .sizes .b) (a .backs .now) .low (omega arith))
 
 loop-again : tie.Need-loop-again Inv-loop μ-loop
-loop-again c = let a = c .before .before .before .before .before .before .before .before .before .before .before .before .before .before .before .before .before .before .before .before .before .before .args in
+loop-again c =
+    let loop-test = c .before .before .before .before .before .before .before .before .before .before .before .before .before .before .loop-test in
+    let write-back = c .before .before .before .before .before .before .before .before .before .write-back in
+    let buffer = c .before .before .before .before .before .before .before .before .buffer in
+    let a = c .before .before .before .before .before .before .before .before .before .before .before .before .before .before .before .before .before .before .before .before .before .before .args in
     let p = c .before .before .before .before .before .before .before .before .before .before .before .before .before .before .before .before .before .before .before .before .before .before .pre in
     let l = c .before .before .before .before .before .before .before .before .before .before .before .before .before .before .before .loop in
-    let h = c .before .before .before .before .before .before .before .before .before .before .before .before .before .before .loop-test .taken in
-    let w = c .before .before .before .before .before .before .before .before .before .write-back .ensures in
+    let h = loop-test .taken in
+    let w = write-back .ensures in
     let n = c .next-of2 .ensures in
     let s = placesOf (a .s) in
     let z = s .sizes in
@@ -86,28 +102,38 @@ loop-again c = let a = c .before .before .before .before .before .before .before
     let well : wellFormed z (spareOnly (l .spare)) ≡ true = rw (l .inv .5 .spare) (p .1 .0 .drains .well-formed) in (
       omega (arith, n, after .high),
       w .1,
-      omega (arith, c .before .before .before .before .before .before .before .before .buffer .given, l .inv .2),
+      omega (arith, buffer .given, l .inv .2),
       λ g. ap (unclean z d s) n ∙ next-unclean z d s listed (p .1 .0 .listed) (l .b + 1) (omega (arith, n)),
       rw (n, w .0, stores-ahead z s (l .b) (l .inv .5), l .inv .4) (stores-more z d s listed (p .1 .0 .listed) (l .b) start h (l .inv .3 h)),
       ahead-more (sources-of (p .1 .0 .drains .orderly) well h (l .inv .1)) (l .left) (w .0) (l .inv .5) _ (omega (arith, n, after .low (omega arith))),
     )
 
 same-length : tie.Need-same-length Inv-loop μ-loop
-same-length c = omega (arith, c .before .loop .inv .2, c .before .before .before .before .before .before .before .before .pre .1 .1)
+same-length c =
+    let start = c .before .before .before .before .before .before .before .before in
+    omega (arith, c .before .loop .inv .2, start .pre .1 .1)
 
 same-length-2 : tie.Need-same-length-2 Inv-loop μ-loop
-same-length-2 c = omega (arith, c .before .loop .inv .1 .flash-length, c .before .before .before .before .before .before .before .before .pre .0 .flash-length)
+same-length-2 c =
+    let start = c .before .before .before .before .before .before .before .before in
+    omega (arith, c .before .loop .inv .1 .flash-length, start .pre .0 .flash-length)
 
 same-length-3 : tie.Need-same-length-3 Inv-loop μ-loop
-same-length-3 c = omega (arith, c .before .loop .inv .1 .spare-length, c .before .before .before .before .before .before .before .before .pre .0 .spare-length)
+same-length-3 c =
+    let start = c .before .before .before .before .before .before .before .before in
+    omega (arith, c .before .loop .inv .1 .spare-length, start .pre .0 .spare-length)
 
 same-length-4 : tie.Need-same-length-4 Inv-loop μ-loop
-same-length-4 c = omega (arith, c .before .loop .inv .1 .disk-length, c .before .before .before .before .before .before .before .before .pre .0 .disk-length)
+same-length-4 c =
+    let start = c .before .before .before .before .before .before .before .before in
+    omega (arith, c .before .loop .inv .1 .disk-length, start .pre .0 .disk-length)
 
 returns : tie.Need-returns Inv-loop μ-loop
 unfolding drain storesTo
-returns c = let l = c .before .loop in
-    let e : l .b ≡ c .before .before .before .before .before .before .before .before .args .s .sizes .b = omega arith in
+returns c =
+    let start = c .before .before .before .before .before .before .before .before in
+    let l = c .before .loop in
+    let e : l .b ≡ start .args .s .sizes .b = omega arith in
     (rw e at (l .inv .4), l .inv .1)
 
 pub write-listed-spec : {M : Type 1} → statement M

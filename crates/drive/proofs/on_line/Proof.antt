@@ -30,16 +30,20 @@ returns c = let start = c .before .before .before .before .before .before .befor
     let a = start .args in
     let r = recorderOf (a .r) (a .flash .now) (a .spare .now) (a .disk .now) in
     let asked = c .before .before .before .before .before .before .asks .ensures in
-    kept-ready r (start .pre .2) (a .line .now) (no-call-line (c .before .before .before .before .before .before .asks .result .unmade) (a .r) (c .before .before .no-call .result) (a .flash .now) (a .spare .now) (a .disk .now) _ (c .before .before .no-call .ensures .0)
-    ∙ (ap (λ (n : ℕ). noCall n r) (asked .0) ∙ sym (line-unmade r (a .line .now) (c .before .before .before .before .before .before .before .request-of .result) (c .before .before .before .before .before .before .before .request-of .ensures) (λ e. c .before .before .before .before .if1 .taken (asked .0 ∙ e))))) (c .before .before .no-call .ensures .1)
+    let e = no-call-line (c .before .before .before .before .before .before .asks .result .unmade) (a .r) (c .before .before .no-call .result) (a .flash .now) (a .spare .now) (a .disk .now) _ (c .before .before .no-call .ensures .0)
+    ∙ (ap (λ (n : ℕ). noCall n r) (asked .0) ∙ sym (line-unmade r (a .line .now) (c .before .before .before .before .before .before .before .request-of .result) (c .before .before .before .before .before .before .before .request-of .ensures) (λ e. c .before .before .before .before .if1 .taken (asked .0 ∙ e)))) in
+    (e, (kept-ready r (start .pre .2) (a .line .now) e, c .before .before .no-call .ensures .1))
 
 called-line-requires : tie.Need-called-line-requires
-called-line-requires c κs = let start = c .before .before .before .before .before .before .before .before .before .before .before .before .before .before .before .before in
+called-line-requires c κs =
+    let asks = c .before .before .before .before .before .before .before .before .asks in
+    let request-of = c .before .before .before .before .before .before .before .before .before .request-of in
+    let start = c .before .before .before .before .before .before .before .before .before .before .before .before .before .before .before .before in
     let a = start .args in
     let r = recorderOf (a .r) (a .flash .now) (a .spare .now) (a .disk .now) in
-    let asked = c .before .before .before .before .before .before .before .before .asks .ensures in
-    let made = line-made r (a .line .now) (c .before .before .before .before .before .before .before .before .before .request-of .result) (c .before .before .before .before .before .before .before .before .before .request-of .ensures) (sym (asked .0) ∙ c .before .before .before .before .before .before .if1 .left) in
-    ((made .0, c .before .before .before .before .before .before .before .before .before .request-of .ensures), (start .pre .0, start .pre .1, rw (asked .1) (made .2 (start .pre .2))))
+    let asked = asks .ensures in
+    let made = line-made r (a .line .now) (request-of .result) (request-of .ensures) (sym (asked .0) ∙ c .before .before .before .before .before .before .if1 .left) in
+    ((made .0, request-of .ensures), (start .pre .0, start .pre .1, rw (asked .1) (made .2 (start .pre .2))))
 
 same-length-2 : tie.Need-same-length-2
 same-length-2 c = search needs
@@ -57,15 +61,21 @@ same-length-6 : tie.Need-same-length-6
 same-length-6 c = search needs
 
 returns-2 : tie.Need-returns-2
-returns-2 c = let start = c .before .before .before .before .before .before .before .before .before .before .before .before .before .before .before .before .before .before .before .before .before .before .before .before .before .before .before in
+returns-2 c =
+    let asks = c .before .before .before .before .before .before .before .before .before .before .before .before .before .before .before .before .before .before .before .asks in
+    let request-of = c .before .before .before .before .before .before .before .before .before .before .before .before .before .before .before .before .before .before .before .before .request-of in
+    let if1 = c .before .before .before .before .before .before .before .before .before .before .before .before .before .before .before .before .before .if1 in
+    let called-line = c .before .before .before .before .before .before .before .before .before .before .called-line in
+    let start = c .before .before .before .before .before .before .before .before .before .before .before .before .before .before .before .before .before .before .before .before .before .before .before .before .before .before .before in
     let a = start .args in
     let f = bytesOf (a .line .now) in
     let r = recorderOf (a .r) (a .flash .now) (a .spare .now) (a .disk .now) in
-    let asked = c .before .before .before .before .before .before .before .before .before .before .before .before .before .before .before .before .before .before .before .asks .ensures in
-    let q = c .before .before .before .before .before .before .before .before .before .before .before .before .before .before .before .before .before .before .before .before .request-of .result in
-    let made = line-made r (a .line .now) q (c .before .before .before .before .before .before .before .before .before .before .before .before .before .before .before .before .before .before .before .before .request-of .ensures) (sym (asked .0) ∙ c .before .before .before .before .before .before .before .before .before .before .before .before .before .before .before .before .before .if1 .left) in
-    kept-ready r (start .pre .2) (a .line .now) (c .before .before .before .before .before .before .before .before .before .before .called-line .ensures .0
-    ∙ (ap (λ (y : Sizes). calledLine y (c .before .before .before .before .before .before .before .before .before .before .before .before .before .before .before .before .before .before .before .asks .result .format) r f) (asked .1) ∙ (ap (λ (t : Bool). calledLine (sizesAsked q (a .r .sizes)) t r f) (asked .2) ∙ sym (made .1)))) (c .before .before .before .before .before .before .before .before .before .before .called-line .ensures .1)
+    let asked = asks .ensures in
+    let q = request-of .result in
+    let made = line-made r (a .line .now) q (request-of .ensures) (sym (asked .0) ∙ if1 .left) in
+    let e = called-line .ensures .0
+    ∙ (ap (λ (y : Sizes). calledLine y (asks .result .format) r f) (asked .1) ∙ (ap (λ (t : Bool). calledLine (sizesAsked q (a .r .sizes)) t r f) (asked .2) ∙ sym (made .1))) in
+    (e, (kept-ready r (start .pre .2) (a .line .now) e, called-line .ensures .1))
 
 pub on-line-spec : {M : Type 1} → statement M
 on-line-spec =

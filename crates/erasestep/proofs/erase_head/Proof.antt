@@ -19,8 +19,11 @@ erase-step-requires c κs = search needs
 
 finish-requires : tie.Need-finish-requires
 unfolding sizesOf
-finish-requires c κs = let a = c .before .before .before .before .before .before .before .before .before .before .before .before .before .before .before .before .before .args in
-    step-left (a .allowance) eraseCall (a .s) (placesOf (a .s)) (device (a .flash .now) (a .spare .now) (a .disk .now)) (eraseStep (a .s .sizes)) (rw (c .before .before .before .before .before .before .before .before .before .before .before .before .whole .ensures) at (c .before .before .before .before .before .before .before .before .erase-step .ensures .0))
+finish-requires c κs =
+    let whole = c .before .before .before .before .before .before .before .before .before .before .before .before .whole in
+    let erase-step = c .before .before .before .before .before .before .before .before .erase-step in
+    let a = c .before .before .before .before .before .before .before .before .before .before .before .before .before .before .before .before .before .args in
+    step-left (a .allowance) eraseCall (a .s) (placesOf (a .s)) (device (a .flash .now) (a .spare .now) (a .disk .now)) (eraseStep (a .s .sizes)) (rw (whole .ensures) at (erase-step .ensures .0))
 
 same-length : tie.Need-same-length
 same-length c = search needs
@@ -33,9 +36,13 @@ same-length-3 c = search needs
 
 returns : tie.Need-returns
 unfolding sizesOf lentBuffer readBuffer
-returns c = let a = c .before .before .before .before .before .before .before .before .before .before .before .before .before .before .before .before .before .before .args in
-    rw (c .finish .ensures, c .before .before .before .before .before .before .before .before .before .before .before .before .before .before .full-answer .ensures)
-    (step-handed (a .allowance) eraseCall (a .s) (placesOf (a .s)) (device (a .flash .now) (a .spare .now) (a .disk .now)) (eraseStep (a .s .sizes)) (rw (c .before .before .before .before .before .before .before .before .before .before .before .before .before .whole .ensures) at (c .before .before .before .before .before .before .before .before .before .erase-step .ensures .0)) refl refl)
+returns c =
+    let full-answer = c .before .before .before .before .before .before .before .before .before .before .before .before .before .before .full-answer in
+    let whole = c .before .before .before .before .before .before .before .before .before .before .before .before .before .whole in
+    let erase-step = c .before .before .before .before .before .before .before .before .before .erase-step in
+    let a = c .before .before .before .before .before .before .before .before .before .before .before .before .before .before .before .before .before .before .args in
+    rw (c .finish .ensures, full-answer .ensures)
+    (step-handed (a .allowance) eraseCall (a .s) (placesOf (a .s)) (device (a .flash .now) (a .spare .now) (a .disk .now)) (eraseStep (a .s .sizes)) (rw (whole .ensures) at (erase-step .ensures .0)) refl refl)
 
 pub erase-head-spec : {M : Type 1} → statement M
 erase-head-spec =

@@ -35,9 +35,10 @@ same-length-3 c = search needs
 returns : tie.Need-returns
 unfolding viewOf tests refusal planOf
 returns c =
+    let if1 = c .before .before .before .before .before .before .before .before .before .before .if1 in
     let a = c .before .before .before .before .before .before .before .before .before .before .before .before .before .before .before .before .before .before .args in
     let tested = c .before .before .before .before .before .before .before .before .before .before .before .running-refusal in
-    let passed = c .before .before .before .before .before .before .before .before .before .before .if1 .taken in
+    let passed = if1 .taken in
     c .before .before .before .before .before .before .erase-head .ensures
     ∙ handed-taken (a .allowance) eraseCall (a .s) (viewOf (a .s)) (device (a .flash .now) (a .spare .now) (a .disk .now)) (tested .ensures .1 passed) (sym (tested .ensures .0) ∙ passed)
 

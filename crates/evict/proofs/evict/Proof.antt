@@ -10,10 +10,14 @@ mul-size c = omega (arith, products (c .before .before .before .before .before .
 
 evict-small-requires : tie.Need-evict-small-requires
 unfolding bucketSize
-evict-small-requires c κs = (c .before .before .before .before .before .before .before .before .before .pre .0, (c .before .before .before .before .before .before .before .before .before .pre .1, c .before .before .before .if1 .taken))
+evict-small-requires c κs =
+    let start = c .before .before .before .before .before .before .before .before .before in
+    (start .pre .0, (start .pre .1, c .before .before .before .if1 .taken))
 
 evict-large-requires : tie.Need-evict-large-requires
-evict-large-requires c κs = (c .before .before .before .before .before .before .before .before .before .pre .0, c .before .before .before .before .before .before .before .before .before .pre .1)
+evict-large-requires c κs =
+    let start = c .before .before .before .before .before .before .before .before .before in
+    (start .pre .0, start .pre .1)
 
 same-length : tie.Need-same-length
 same-length c = search needs

@@ -21,24 +21,38 @@ drop-write-requires c κs = let start = c .before .before .before .before .befor
     dropped-left (placesOf (start .args .s)) (start .args .b) (start .pre .1 .0 .0) _ _ _ (c .before .before .before .before .before .before .before .put-away .ensures .0) .bounded
 
 same-length : tie.Need-same-length
-same-length c = omega (arith, c .before .before .before .before .before .before .before .before .before .before .before .before .before .before .buffer .given)
+same-length c =
+    let buffer = c .before .before .before .before .before .before .before .before .before .before .before .before .before .before .buffer in
+    omega (arith, buffer .given)
 
 same-length-2 : tie.Need-same-length-2
-same-length-2 c = omega (arith, c .before .before .before .before .before .before .before .before .put-away .ensures .1 .flash-length, c .before .before .before .before .before .before .before .before .before .before .before .before .before .before .before .before .before .before .before .before .before .before .before .before .pre .0 .flash-length)
+same-length-2 c =
+    let put-away = c .before .before .before .before .before .before .before .before .put-away in
+    let start = c .before .before .before .before .before .before .before .before .before .before .before .before .before .before .before .before .before .before .before .before .before .before .before .before in
+    omega (arith, put-away .ensures .1 .flash-length, start .pre .0 .flash-length)
 
 same-length-3 : tie.Need-same-length-3
-same-length-3 c = omega (arith, c .before .before .before .before .before .before .before .before .put-away .ensures .1 .spare-length, c .before .before .before .before .before .before .before .before .before .before .before .before .before .before .before .before .before .before .before .before .before .before .before .before .pre .0 .spare-length)
+same-length-3 c =
+    let put-away = c .before .before .before .before .before .before .before .before .put-away in
+    let start = c .before .before .before .before .before .before .before .before .before .before .before .before .before .before .before .before .before .before .before .before .before .before .before .before in
+    omega (arith, put-away .ensures .1 .spare-length, start .pre .0 .spare-length)
 
 same-length-4 : tie.Need-same-length-4
-same-length-4 c = omega (arith, c .before .before .before .before .before .before .before .before .put-away .ensures .1 .disk-length, c .before .before .before .before .before .before .before .before .before .before .before .before .before .before .before .before .before .before .before .before .before .before .before .before .pre .0 .disk-length)
+same-length-4 c =
+    let put-away = c .before .before .before .before .before .before .before .before .put-away in
+    let start = c .before .before .before .before .before .before .before .before .before .before .before .before .before .before .before .before .before .before .before .before .before .before .before .before in
+    omega (arith, put-away .ensures .1 .disk-length, start .pre .0 .disk-length)
 
 returns : tie.Need-returns
-returns c = let start = c .before .before .before .before .before .before .before .before .before .before .before .before .before .before .before .before .before .before .before .before .before .before .before .before in
+returns c =
+    let put-away = c .before .before .before .before .before .before .before .before .put-away in
+    let merged-range = c .before .before .before .before .before .before .before .before .before .before .before .before .before .before .before .merged-range in
+    let start = c .before .before .before .before .before .before .before .before .before .before .before .before .before .before .before .before .before .before .before .before .before .before .before .before in
     let a = start .args in
     let evicts = start .pre .1 .0 .0 in
     let sources = sources-of (evicts .ready .orderly) (start .pre .1 .0 .1) (evicts .back) (start .pre .0) in
-    let put = c .before .before .before .before .before .before .before .before .put-away .ensures in
-    (rw (c .drop-write .ensures) (evicted-by (placesOf (a .s)) (a .b) (start .pre .1 .0 .0) (a .s .sizes) _ _ (put .0) refl (c .before .before .before .before .before .before .before .before .before .before .before .before .before .before .before .merged-range .ensures ∙ all-shown sources (length (a .buffer .now)) (start .pre .1 .1))), put .1)
+    let put = put-away .ensures in
+    (rw (c .drop-write .ensures) (evicted-by (placesOf (a .s)) (a .b) (start .pre .1 .0 .0) (a .s .sizes) _ _ (put .0) refl (merged-range .ensures ∙ all-shown sources (length (a .buffer .now)) (start .pre .1 .1))), put .1)
 
 pub evict-by-spec : {M : Type 1} → statement M
 evict-by-spec =

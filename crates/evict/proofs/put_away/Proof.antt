@@ -25,7 +25,10 @@ same-length-3 c = search needs
 
 returns : tie.Need-returns
 unfolding putAway after
-returns c = (rw (sym (c .before .before .before .before .before .before .before .before .before .before .before .holds .ensures) ∙ c .before .before .before .before .before .before .before .before .before .before .if1 .taken) (c .before .before .before .before .before .before .copy .ensures .0), c .before .before .before .before .before .before .copy .ensures .1)
+returns c =
+    let holds = c .before .before .before .before .before .before .before .before .before .before .before .holds in
+    let if1 = c .before .before .before .before .before .before .before .before .before .before .if1 in
+    (rw (sym (holds .ensures) ∙ if1 .taken) (c .before .before .before .before .before .before .copy .ensures .0), c .before .before .before .before .before .before .copy .ensures .1)
 
 write-units-requires : tie.Need-write-units-requires
 write-units-requires c κs = let p = c .before .before .before .before .before .before .before .before .before .before .pre in
@@ -42,7 +45,10 @@ same-length-6 c = search needs
 
 returns-2 : tie.Need-returns-2
 unfolding putAway writeOut after
-returns-2 c = (rw (sym (c .before .before .before .before .before .before .before .before .before .before .before .before .holds .ensures) ∙ c .before .before .before .before .before .before .before .before .before .before .before .if1 .left, c .before .before .before .before .before .before .write-units .ensures .0), c .before .before .before .before .before .before .write-units .ensures .1)
+returns-2 c =
+    let holds = c .before .before .before .before .before .before .before .before .before .before .before .before .holds in
+    let if1 = c .before .before .before .before .before .before .before .before .before .before .before .if1 in
+    (rw (sym (holds .ensures) ∙ if1 .left, c .before .before .before .before .before .before .write-units .ensures .0), c .before .before .before .before .before .before .write-units .ensures .1)
 
 pub put-away-spec : {M : Type 1} → statement M
 put-away-spec =

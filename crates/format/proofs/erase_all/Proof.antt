@@ -33,8 +33,9 @@ loop-less c = omega arith
 
 loop-again : tie.Need-loop-again Inv-loop μ-loop
 loop-again c =
+    let loop = c .before .before .before .before .before .before .before .before .before .before .before .loop in
     let erased = c .before .before .before .before .before .before .erase-bucket .ensures in
-    (omega arith, erased .1, rw (erased .0, c .before .before .before .before .before .before .before .before .before .before .before .loop .inv .2, erases-more))
+    (omega arith, erased .1, rw (erased .0, loop .inv .2, erases-more))
 
 same-length : tie.Need-same-length Inv-loop μ-loop
 same-length c = omega (arith, c .before .loop .inv .1 .flash-length, c .before .before .before .before .before .pre .flash-length)

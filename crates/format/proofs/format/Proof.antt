@@ -31,9 +31,11 @@ same-length-3 c = search needs
 returns : tie.Need-returns
 unfolding tests refusal planOf
 returns c =
+    let lent-refusal = c .before .before .before .before .before .before .before .before .before .before .before .lent-refusal in
+    let if1 = c .before .before .before .before .before .before .before .before .before .before .if1 in
     let a = c .before .before .before .before .before .before .before .before .before .before .before .before .before .before .before .before .before .before .args in
     let d = device (a .flash .now) (a .spare .now) (a .disk .now) in
-    c .before .before .before .before .before .before .format-chip .ensures ∙ handed-taken (a .allowance) (formatCall (a .z)) (a .s) (viewOf (a .s)) d refl (sym (c .before .before .before .before .before .before .before .before .before .before .before .lent-refusal .ensures) ∙ c .before .before .before .before .before .before .before .before .before .before .if1 .taken)
+    c .before .before .before .before .before .before .format-chip .ensures ∙ handed-taken (a .allowance) (formatCall (a .z)) (a .s) (viewOf (a .s)) d refl (sym (lent-refusal .ensures) ∙ if1 .taken)
 
 same-length-4 : tie.Need-same-length-4
 same-length-4 c = search needs

@@ -20,9 +20,10 @@ formatted-requires c κs = search needs
 finish-requires : tie.Need-finish-requires
 unfolding sizesOf format
 finish-requires c κs =
+    let whole = c .before .before .before .before .before .before .before .before .before .before .before .whole in
     let a = c .before .before .before .before .before .before .before .before .before .before .before .before .before .before .before .args in
     let d = device (a .flash .now) (a .spare .now) (a .disk .now) in
-    left-within (a .allowance) (formatCall (a .z)) (a .s) (viewOf (a .s)) d (format (a .z)) (rw (c .before .before .before .before .before .before .before .before .before .before .before .whole .ensures) at (c .before .before .before .before .before .before .before .erase-all .ensures .0))
+    left-within (a .allowance) (formatCall (a .z)) (a .s) (viewOf (a .s)) d (format (a .z)) (rw (whole .ensures) at (c .before .before .before .before .before .before .before .erase-all .ensures .0))
 
 same-length : tie.Need-same-length
 same-length c = search needs
@@ -36,9 +37,11 @@ same-length-3 c = search needs
 returns : tie.Need-returns
 unfolding sizesOf format doneAnswer lentBuffer readBuffer
 returns c =
+    let whole = c .before .before .before .before .before .before .before .before .before .before .before .before .whole in
+    let erase-all = c .before .before .before .before .before .before .before .before .erase-all in
     let a = c .before .before .before .before .before .before .before .before .before .before .before .before .before .before .before .before .args in
     let d = device (a .flash .now) (a .spare .now) (a .disk .now) in
-    rw (c .finish .ensures, c .before .formatted .ensures) (handed-quiet (a .allowance) (formatCall (a .z)) (a .s) (viewOf (a .s)) d (format (a .z)) refl refl (rw (c .before .before .before .before .before .before .before .before .before .before .before .before .whole .ensures) at (c .before .before .before .before .before .before .before .before .erase-all .ensures .0)))
+    rw (c .finish .ensures, c .before .formatted .ensures) (handed-quiet (a .allowance) (formatCall (a .z)) (a .s) (viewOf (a .s)) d (format (a .z)) refl refl (rw (whole .ensures) at (erase-all .ensures .0)))
 
 pub format-chip-spec : {M : Type 1} → statement M
 format-chip-spec =

@@ -13,7 +13,9 @@ same-length : tie.Need-same-length
 same-length c = search needs
 
 returns : tie.Need-returns
-returns c = c .before .before .merged-range .ensures ∙ all-shown (c .before .before .before .before .before .before .before .before .pre .0) (length (c .before .before .before .before .before .before .before .before .args .buffer .now)) (c .before .before .before .before .before .before .before .before .pre .1)
+returns c =
+    let start = c .before .before .before .before .before .before .before .before in
+    c .before .before .merged-range .ensures ∙ all-shown (start .pre .0) (length (start .args .buffer .now)) (start .pre .1)
 
 pub merged-into-spec : {M : Type 1} → statement M
 merged-into-spec = tie.close (tie.spec merged-range-requires same-length returns)

@@ -29,20 +29,24 @@ same-length c = search needs
 
 returns : tie.Need-returns
 unfolding merged
-returns c = let start = c .before .before .before .before .before .before .before .before .before .before .before .before .before .before .before .before in
+returns c =
+    let base-range = c .before .before .before .before .before .before .before .before .base-range in
+    let start = c .before .before .before .before .before .before .before .before .before .before .before .before .before .before .before .before in
     let found = c .before .before .before .before .before .before .before .before .before .before .find in
     let a = start .args in
     let d = device (a .flash .now) (a .spare .now) (a .disk .now) in
     let base = baseBytes (a .s .sizes) (placesOf (a .s)) d (a .b) in
     rw (sym (found .ensures .0) ∙ c .before .before .before .before .before .if1 .taken, ← found .ensures .1, ← same-merge (a .s .sizes) d (found .result .cache) base)
-    (rw (c .before .before .before .before .before .before .before .window .given) at (c .before .before .merge-range .ensures base (base-size (start .pre .0)) (rw (c .before .before .before .before .before .before .before .window .given) (c .before .before .before .before .before .before .before .before .base-range .ensures (a .spare .now)))))
+    (rw (c .before .before .before .before .before .before .before .window .given) at (c .before .before .merge-range .ensures base (base-size (start .pre .0)) (rw (c .before .before .before .before .before .before .before .window .given) (base-range .ensures (a .spare .now)))))
 
 same-length-2 : tie.Need-same-length-2
 same-length-2 c = search needs
 
 returns-2 : tie.Need-returns-2
 unfolding merged
-returns-2 c = rw (sym (c .before .before .before .before .before .find .ensures .0) ∙ c .if1 .left) (c .before .before .before .base-range .ensures (c .before .before .before .before .before .before .before .before .before .before .before .args .spare .now))
+returns-2 c =
+    let start = c .before .before .before .before .before .before .before .before .before .before .before in
+    rw (sym (c .before .before .before .before .before .find .ensures .0) ∙ c .if1 .left) (c .before .before .before .base-range .ensures (start .args .spare .now))
 
 pub merged-range-spec : {M : Type 1} → statement M
 merged-range-spec =

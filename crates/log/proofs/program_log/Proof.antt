@@ -29,7 +29,9 @@ unfolding runAll row
 loop-holds c = (omega arith, c .before .before .before .before .before .pre .0, refl)
 
 program-page-requires : tie.Need-program-page-requires Inv-loop μ-loop
-program-page-requires c κs = (c .before .before .before .before .loop .inv .1, (c .before .before .before .before .before .before .before .before .before .before .pre .1, rw (c .before .before .before .before .before .pages-for .ensures) at (c .before .before .before .loop-test .taken)))
+program-page-requires c κs =
+    let start = c .before .before .before .before .before .before .before .before .before .before in
+    (c .before .before .before .before .loop .inv .1, (start .pre .1, rw (c .before .before .before .before .before .pages-for .ensures) at (c .before .before .before .loop-test .taken)))
 
 add-o : tie.Need-add-o Inv-loop μ-loop
 add-o c = omega arith
@@ -39,8 +41,9 @@ loop-less c = omega arith
 
 loop-again : tie.Need-loop-again Inv-loop μ-loop
 loop-again c =
+    let loop = c .before .before .before .before .before .before .before .before .before .before .before .loop in
     let page = c .before .before .before .before .before .before .program-page .ensures in
-    (omega arith, page .1, rw (page .0, c .before .before .before .before .before .before .before .before .before .before .before .loop .inv .2, run-more))
+    (omega arith, page .1, rw (page .0, loop .inv .2, run-more))
 
 same-length : tie.Need-same-length Inv-loop μ-loop
 same-length c = omega (arith, c .before .loop .inv .1 .flash-length, c .before .before .before .before .before .before .before .pre .0 .flash-length)

@@ -25,7 +25,9 @@ part-write-at-end : tie.Need-part-write-at-end
 part-write-at-end c = search needs
 
 write-at-requires : tie.Need-write-at-requires
-write-at-requires c κs = rw (c .before .before .before .before .before .before .before .before .pre .1 .3, length-ff) (simp (length-take, length-drop) (omega (arith, begins (c .before .before .before .before .before .before .before .before), c .before .before .before .before .before .before .before .before .pre .1 .2)))
+write-at-requires c κs =
+    let start = c .before .before .before .before .before .before .before .before in
+    rw (start .pre .1 .3, length-ff) (simp (length-take, length-drop) (omega (arith, begins (c .before .before .before .before .before .before .before .before), start .pre .1 .2)))
 
 program-lent-requires : tie.Need-program-lent-requires
 program-lent-requires c κs =
@@ -48,10 +50,12 @@ same-length-4 c = search needs
 returns : tie.Need-returns
 unfolding logStore
 returns c =
+    let start = c .before .before .before .before .before .before .before .before .before .before .before .before .before .before .before .before .before .before .before .before .before .before in
+    let write-at = c .before .before .before .before .before .before .before .before .before .before .before .before .before .write-at in
     let a = c .before .before .before .before .before .before .before .before .before .before .before .before .before .before .before .before .before .before .before .before .before .before .args in
-    let asked = c .before .before .before .before .before .before .before .before .before .before .before .before .before .before .before .before .before .before .before .before .before .before .pre .1 in
+    let asked = start .pre .1 in
     let stored = c .before .before .before .before .before .before .program-lent .ensures in
-    (rw (stored .0, c .before .before .before .before .before .before .before .before .before .before .before .before .before .write-at .ensures, asked .3, page-laid (a .z) (a .bytes .now) (a .o) (asked .2)), stored .1)
+    (rw (stored .0, write-at .ensures, asked .3, page-laid (a .z) (a .bytes .now) (a .o) (asked .2)), stored .1)
 
 pub program-over-spec : {M : Type 1} → statement M
 program-over-spec =

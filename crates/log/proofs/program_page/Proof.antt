@@ -52,9 +52,10 @@ same-length-6 c = search needs
 returns-2 : tie.Need-returns-2
 unfolding logStore
 returns-2 c =
+    let if1 = c .before .before .before .before .before .before .before .before .before .before .before .if1 in
     let a = c .before .before .before .before .before .before .before .before .before .before .before .before .before .before .before .before .before .before .args in
     let stored = c .before .before .before .before .before .before .program-lent .ensures in
-    (rw (stored .0, lent-part (a .bytes .now) (a .o * a .z .s) (a .z .s), page-whole (a .z) (a .bytes .now) (a .o) (omega (arith, c .before .before .before .before .before .before .before .before .before .before .before .if1 .left))), stored .1)
+    (rw (stored .0, lent-part (a .bytes .now) (a .o * a .z .s) (a .z .s), page-whole (a .z) (a .bytes .now) (a .o) (omega (arith, if1 .left))), stored .1)
 
 pub program-page-spec : {M : Type 1} → statement M
 program-page-spec =

@@ -72,8 +72,9 @@ part-lay-end c = omega (arith, bounds (c .before .before .before .before .before
 lay-requires : tie.Need-lay-requires
 unfolding bucketSize
 lay-requires c κs =
-    let p = products (c .before .before .before .before .before .before .before .before .before .pre .0) in
-    (omega (arith, c .before .before .before .before .before .before .before .before .before .pre .1 .1 .1 .1), omega (arith, place (c .before .before .before .before .before .before .before .before .before)))
+    let start = c .before .before .before .before .before .before .before .before .before in
+    let p = products (start .pre .0) in
+    (omega (arith, start .pre .1 .1 .1 .1), omega (arith, place (c .before .before .before .before .before .before .before .before .before)))
 
 same-length : tie.Need-same-length
 same-length c = search needs

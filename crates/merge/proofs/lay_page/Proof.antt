@@ -39,11 +39,15 @@ same-length : tie.Need-same-length
 same-length c = search needs
 
 returns-3 : tie.Need-returns-3
-returns-3 c = λ base e shows.
+returns-3 c =
+    let ends-log = c .before .before .before .before .before .before .before .before .before .ends-log in
+    let if1 = c .before .before .before .before .before .before .before .before .if1 in
+    let start = c .before .before .before .before .before .before .before .before .before .before .before .before .before in
+    λ base e shows.
     let p = c .before .before .before .before .before .before .before .before .before .before .before .before .before .pre in
     let says = sym (c .before .before .before .before .before .before .before .page-seen .ensures) ∙ c .before .before .before .before .before .page .given .1 in
-    let last = ends-last (p .0) (p .1 .0) (p .1 .1 .0) says (sym (c .before .before .before .before .before .before .before .before .before .ends-log .ensures) ∙ not-false _ (c .before .before .before .before .before .before .before .before .if1 .left)) in
-    let whole = merged-length (p .0) (p .1 .0) base e (c .before .before .before .before .before .before .before .before .before .before .before .before .before .args .k) (omega (arith, p .1 .1 .0)) in
+    let last = ends-last (p .0) (p .1 .0) (p .1 .1 .0) says (sym (ends-log .ensures) ∙ not-false _ (if1 .left)) in
+    let whole = merged-length (p .0) (p .1 .0) base e (start .args .k) (omega (arith, p .1 .1 .0)) in
     rw (log-laid (p .0) (p .1 .0) (p .1 .1 .0) says last base) (c .before .before .lay-log .ensures _ whole shows)
 
 pub lay-page-spec : {M : Type 1} → statement M

@@ -25,7 +25,9 @@ same-length-3 c = search needs
 
 returns-2 : tie.Need-returns-2
 unfolding step
-returns-2 c = (rw (c .before .before .before .before .before .before .carry-out .ensures .0, ne-eqb _ _ (c .before .before .before .before .before .before .before .before .before .before .if1 .left)), c .before .before .before .before .before .before .carry-out .ensures .1)
+returns-2 c =
+    let if1 = c .before .before .before .before .before .before .before .before .before .before .if1 in
+    (rw (c .before .before .before .before .before .before .carry-out .ensures .0, ne-eqb _ _ (if1 .left)), c .before .before .before .before .before .before .carry-out .ensures .1)
 
 pub store-spec : {M : Type 1} → statement M
 store-spec =

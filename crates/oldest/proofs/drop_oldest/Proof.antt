@@ -49,14 +49,18 @@ cast-write-out : tie.Need-cast-write-out
 cast-write-out c = search needs
 
 write-out-requires : tie.Need-write-out-requires
-write-out-requires c κs = let start = c .before .before .before .before .before .before .before .before .before .before .before .before .before .before .before .before .before in
+write-out-requires c κs =
+    let if1 = c .before .before .before .before .before .before .before .before .before .before .if1 in
+    let used = c .before .before .before .before .before .before .before .before .before .before .before .before .used in
+    let first = c .before .before .before .before .before .before .before .before .before .first in
+    let start = c .before .before .before .before .before .before .before .before .before .before .before .before .before .before .before .before .before in
     let v = placesOf (start .args .s) in
-    let full : v .sizes .r ≤ length (v .reads) = omega (arith, c .before .before .before .before .before .before .before .before .before .before .if1 .left, c .before .before .before .before .before .before .before .before .before .before .before .before .used .ensures .0) in (
+    let full : v .sizes .r ≤ length (v .reads) = omega (arith, if1 .left, used .ensures .0) in (
       start .pre .0,
       record {
         limits = start .pre .1 .orderly .limits;
-        back = rw (c .before .before .before .before .before .before .before .before .before .first .ensures) (start .pre .1 .back (some-read v (start .pre .1) full));
-        cache = rw (c .before .before .before .before .before .before .before .before .before .first .ensures) (on-chip (v .sizes) _ (oldest-below v (start .pre .1) full));
+        back = rw (first .ensures) (start .pre .1 .back (some-read v (start .pre .1) full));
+        cache = rw (first .ensures) (on-chip (v .sizes) _ (oldest-below v (start .pre .1) full));
       },
     )
 
@@ -70,23 +74,32 @@ same-length-3 : tie.Need-same-length-3
 same-length-3 c = search needs
 
 returns-2 : tie.Need-returns-2
-returns-2 c = let start = c .before .before .before .before .before .before .before .before .before .before .before .before .before .before .before .before .before .before .before .before .before .before .before .before in
+returns-2 c =
+    let if1 = c .before .before .before .before .before .before .before .before .before .before .before .before .before .before .before .before .before .if1 in
+    let used = c .before .before .before .before .before .before .before .before .before .before .before .before .before .before .before .before .before .before .before .used in
+    let first = c .before .before .before .before .before .before .before .before .before .before .before .before .before .before .before .before .first in
+    let is-dirty = c .before .before .before .before .before .before .before .before .before .before .before .before .is-dirty in
+    let if2 = c .before .before .before .before .before .before .before .before .before .before .before .if2 in
+    let drop-oldest = c .before .before .before .before .before .before .before .before .before .before .before .before .before .before .before .drop-oldest in
+    let start = c .before .before .before .before .before .before .before .before .before .before .before .before .before .before .before .before .before .before .before .before .before .before .before .before in
     let a = start .args in
     let v = placesOf (a .s) in
     let d = device (a .flash .now) (a .spare .now) (a .disk .now) in
-    let full : ltb (length (v .reads)) (v .sizes .r) ≡ false = le-ltb (length (v .reads)) (v .sizes .r) (omega (arith, c .before .before .before .before .before .before .before .before .before .before .before .before .before .before .before .before .before .if1 .left, c .before .before .before .before .before .before .before .before .before .before .before .before .before .before .before .before .before .before .before .used .ensures .0)) in
-    let dirty : isDirty (v .sizes) d (getD (v .reads) 0 noEntry .cache) ≡ true = rw (← c .before .before .before .before .before .before .before .before .before .before .before .before .before .before .before .before .first .ensures) (sym (same-dirty (v .sizes) d (c .before .before .before .before .before .before .before .before .before .before .before .before .before .before .before .before .first .result .cache)) ∙ sym (c .before .before .before .before .before .before .before .before .before .before .before .before .is-dirty .ensures) ∙ c .before .before .before .before .before .before .before .before .before .before .before .if2 .taken) in
-    (rw (c .before .before .before .before .before .before .write-out .ensures .0, c .before .before .before .before .before .before .before .before .before .before .before .before .before .before .before .drop-oldest .ensures, c .before .before .before .before .before .before .before .before .before .before .before .before .before .before .before .before .first .ensures) (drop-dirty (v .sizes) v (running (a .flash .now) (a .spare .now) (a .disk .now) (a .meter)) full dirty), c .before .before .before .before .before .before .write-out .ensures .1)
+    let full : ltb (length (v .reads)) (v .sizes .r) ≡ false = le-ltb (length (v .reads)) (v .sizes .r) (omega (arith, if1 .left, used .ensures .0)) in
+    let dirty : isDirty (v .sizes) d (getD (v .reads) 0 noEntry .cache) ≡ true = rw (← first .ensures) (sym (same-dirty (v .sizes) d (first .result .cache)) ∙ sym (is-dirty .ensures) ∙ if2 .taken) in
+    (rw (c .before .before .before .before .before .before .write-out .ensures .0, drop-oldest .ensures, first .ensures) (drop-dirty (v .sizes) v (running (a .flash .now) (a .spare .now) (a .disk .now) (a .meter)) full dirty), c .before .before .before .before .before .before .write-out .ensures .1)
 
 same-length-4 : tie.Need-same-length-4
 same-length-4 c = search needs
 
 returns-3 : tie.Need-returns-3
-returns-3 c = let start = c .before .before .before .before .before .before .before .before .before .before .before .before .before in
+returns-3 c =
+    let used = c .before .before .before .before .before .before .before .before .used in
+    let start = c .before .before .before .before .before .before .before .before .before .before .before .before .before in
     let a = start .args in
     let v = placesOf (a .s) in
     let d = device (a .flash .now) (a .spare .now) (a .disk .now) in
-    let full : ltb (length (v .reads)) (v .sizes .r) ≡ false = le-ltb (length (v .reads)) (v .sizes .r) (omega (arith, c .before .before .before .before .before .before .if1 .left, c .before .before .before .before .before .before .before .before .used .ensures .0)) in
+    let full : ltb (length (v .reads)) (v .sizes .r) ≡ false = le-ltb (length (v .reads)) (v .sizes .r) (omega (arith, c .before .before .before .before .before .before .if1 .left, used .ensures .0)) in
     let clean : isDirty (v .sizes) d (getD (v .reads) 0 noEntry .cache) ≡ false = rw (← c .before .before .before .before .before .first .ensures) (sym (same-dirty (v .sizes) d (c .before .before .before .before .before .first .result .cache)) ∙ sym (c .before .is-dirty .ensures) ∙ c .if2 .left) in
     (rw (c .before .before .before .before .drop-oldest .ensures) (drop-clean (v .sizes) v (running (a .flash .now) (a .spare .now) (a .disk .now) (a .meter)) full clean), start .pre .0)
 

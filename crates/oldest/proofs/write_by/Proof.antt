@@ -35,10 +35,12 @@ same-length-4 c = search needs
 
 returns : tie.Need-returns
 unfolding bucketSize
-returns c = let start = c .before .before .before .before .before .before .before .before .before .before .before .before .before .before .before .before .before .before .before .before .before in
+returns c =
+    let piece-range = c .before .before .before .before .before .before .before .before .before .before .before .before .before .piece-range in
+    let start = c .before .before .before .before .before .before .before .before .before .before .before .before .before .before .before .before .before .before .before .before .before in
     let a = start .args in
     let d = device (a .flash .now) (a .spare .now) (a .disk .now) in
-    let shown = c .before .before .before .before .before .before .before .before .before .before .before .before .before .piece-range .ensures ∙ bucket-shown (a .z) d (a .c) (length (a .buffer .now)) (start .pre .1 .1) in
+    let shown = piece-range .ensures ∙ bucket-shown (a .z) d (a .c) (length (a .buffer .now)) (start .pre .1 .1) in
     (rw (← shown) (c .before .before .before .before .before .before .write-units .ensures .0), c .before .before .before .before .before .before .write-units .ensures .1)
 
 pub write-by-spec : {M : Type 1} → statement M

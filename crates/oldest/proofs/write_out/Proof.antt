@@ -10,7 +10,9 @@ mul-size c = omega (arith, products (c .before .before .before .before .pre .1 .
 
 write-small-requires : tie.Need-write-small-requires
 unfolding bucketSize
-write-small-requires c κs = (c .before .before .before .before .before .before .before .before .pre .0, (c .before .before .before .before .before .before .before .before .pre .1, c .before .before .before .if1 .taken))
+write-small-requires c κs =
+    let start = c .before .before .before .before .before .before .before .before in
+    (start .pre .0, (start .pre .1, c .before .before .before .if1 .taken))
 
 write-large-requires : tie.Need-write-large-requires
 write-large-requires c κs = search needs

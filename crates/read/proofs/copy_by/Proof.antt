@@ -26,20 +26,27 @@ make-copy-requires c κs = let p = c .before .before .before .before .before .be
     (p .0, (p .1 .0 .drops, p .1 .1 .0, omega (arith, c .before .before .before .before .before .before .bytes .given, p .1 .1 .1)))
 
 show-requires : tie.Need-show-requires
-show-requires c κs = let p = c .before .before .before .before .before .before .before .before .before .before .before .before .before .before .before .before .before .before .before .before .before .before .before .before .before .before .before .before .pre in
-    omega (arith, p .1 .0 .range, c .before .before .before .before .before .before .before .before .before .before .before .before .before .before .before .before .before .bytes .given, p .1 .1 .1)
+show-requires c κs =
+    let bytes = c .before .before .before .before .before .before .before .before .before .before .before .before .before .before .before .before .before .bytes in
+    let p = c .before .before .before .before .before .before .before .before .before .before .before .before .before .before .before .before .before .before .before .before .before .before .before .before .before .before .before .before .pre in
+    omega (arith, p .1 .0 .range, bytes .given, p .1 .1 .1)
 
 finish-requires : tie.Need-finish-requires
 unfolding sizesOf
-finish-requires c κs = let a = c .before .before .before .before .before .before .before .before .before .before .before .before .before .before .before .before .before .before .before .before .before .before .before .before .before .before .before .before .before .before .before .args in
+finish-requires c κs =
+    let whole = c .before .before .before .before .before .before .before .before .before .before .before .before .before .before .before .before .before .before .whole in
+    let make-copy = c .before .before .before .before .before .before .before .before .before .before .before .before .before .make-copy in
+    let a = c .before .before .before .before .before .before .before .before .before .before .before .before .before .before .before .before .before .before .before .before .before .before .before .before .before .before .before .before .before .before .before .args in
     let d = device (a .flash .now) (a .spare .now) (a .disk .now) in
-    step-left (a .allowance) (readCall (a .b) (a .offset) (a .buffer .now)) (a .s) (placesOf (a .s)) d _ (rw (c .before .before .before .before .before .before .before .before .before .before .before .before .before .before .before .before .before .before .whole .ensures) at (c .before .before .before .before .before .before .before .before .before .before .before .before .before .make-copy .ensures .0))
+    step-left (a .allowance) (readCall (a .b) (a .offset) (a .buffer .now)) (a .s) (placesOf (a .s)) d _ (rw (whole .ensures) at (make-copy .ensures .0))
 
 same-length : tie.Need-same-length
 same-length c = search needs
 
 same-length-2 : tie.Need-same-length-2
-same-length-2 c = omega (arith, c .before .before .before .before .before .before .before .before .before .before .before .before .before .before .before .before .before .before .before .before .before .bytes .given)
+same-length-2 c =
+    let bytes = c .before .before .before .before .before .before .before .before .before .before .before .before .before .before .before .before .before .before .before .before .before .bytes in
+    omega (arith, bytes .given)
 
 same-length-3 : tie.Need-same-length-3
 same-length-3 c = search needs
@@ -51,14 +58,18 @@ same-length-5 : tie.Need-same-length-5
 same-length-5 c = search needs
 
 returns : tie.Need-returns
-returns c = let start = c .before .before .before .before .before .before .before .before .before .before .before .before .before .before .before .before .before .before .before .before .before .before .before .before .before .before .before .before .before .before .before .before in
+returns c =
+    let merged-range = c .before .before .before .before .before .before .before .before .before .before .before .before .before .before .before .before .before .before .before .before .before .before .merged-range in
+    let whole = c .before .before .before .before .before .before .before .before .before .before .before .before .before .before .before .before .before .before .before .whole in
+    let make-copy = c .before .before .before .before .before .before .before .before .before .before .before .before .before .before .make-copy in
+    let start = c .before .before .before .before .before .before .before .before .before .before .before .before .before .before .before .before .before .before .before .before .before .before .before .before .before .before .before .before .before .before .before .before in
     let a = start .args in
     let z = a .s .sizes in
     let v = placesOf (a .s) in
     let d = device (a .flash .now) (a .spare .now) (a .disk .now) in
-    let bytes = c .before .before .before .before .before .before .before .before .before .before .before .before .before .before .before .before .before .before .before .before .before .before .merged-range .ensures ∙ all-shown (sources (start .pre .1 .0) (start .pre .0)) (length (a .bytes .now)) (start .pre .1 .1 .1) in
+    let bytes = merged-range .ensures ∙ all-shown (sources (start .pre .1 .0) (start .pre .0)) (length (a .bytes .now)) (start .pre .1 .1 .1) in
     rw (c .finish .ensures)
-    (handed-read (a .allowance) (a .s) d (copyOf z (a .b) (merged z v d (a .b))) (rw (bytes, c .before .before .before .before .before .before .before .before .before .before .before .before .before .before .before .before .before .before .before .whole .ensures) at (c .before .before .before .before .before .before .before .before .before .before .before .before .before .before .make-copy .ensures .0)) (a .b) (a .offset) (a .buffer .now) (rw bytes at (c .before .before .before .show .ensures)))
+    (handed-read (a .allowance) (a .s) d (copyOf z (a .b) (merged z v d (a .b))) (rw (bytes, whole .ensures) at (make-copy .ensures .0)) (a .b) (a .offset) (a .buffer .now) (rw bytes at (c .before .before .before .show .ensures)))
 
 pub copy-by-spec : {M : Type 1} → statement M
 copy-by-spec =

@@ -13,7 +13,9 @@ array-borrow-prefix-bytes : tie.Need-array-borrow-prefix-bytes
 array-borrow-prefix-bytes c = omega (arith, products (c .before .before .before .before .before .before .before .pre .1 .0 .drops .orderly .limits))
 
 slice-aggregate-copy-by : tie.Need-slice-aggregate-copy-by
-slice-aggregate-copy-by c = simp length-take (omega (arith, products (c .before .before .before .before .before .before .before .before .pre .1 .0 .drops .orderly .limits)))
+slice-aggregate-copy-by c =
+    let start = c .before .before .before .before .before .before .before .before in
+    simp length-take (omega (arith, products (start .pre .1 .0 .drops .orderly .limits)))
 
 copy-by-requires : tie.Need-copy-by-requires
 unfolding bucketSize
@@ -33,7 +35,9 @@ same-length-4 : tie.Need-same-length-4
 same-length-4 c = search needs
 
 returns : tie.Need-returns
-returns c = c .before .before .before .before .before .before .before .before .before .copy-by .ensures
+returns c =
+    let copy-by = c .before .before .before .before .before .before .before .before .before .copy-by in
+    copy-by .ensures
 
 pub copy-large-spec : {M : Type 1} → statement M
 copy-large-spec =

@@ -14,7 +14,9 @@ copy-small-requires c κs = let p = c .before .before .before .before .before .b
     (p .0, (p .1 .0, (p .1 .1, c .before .before .before .before .if1 .taken)))
 
 copy-large-requires : tie.Need-copy-large-requires
-copy-large-requires c κs = c .before .before .before .before .before .before .before .before .before .before .before .pre
+copy-large-requires c κs =
+    let start = c .before .before .before .before .before .before .before .before .before .before .before in
+    start .pre
 
 same-length : tie.Need-same-length
 same-length c = search needs
@@ -29,7 +31,9 @@ same-length-4 : tie.Need-same-length-4
 same-length-4 c = search needs
 
 returns : tie.Need-returns
-returns c = c .before .before .before .before .before .before .before .before .copy-small .ensures
+returns c =
+    let copy-small = c .before .before .before .before .before .before .before .before .copy-small in
+    copy-small .ensures
 
 same-length-5 : tie.Need-same-length-5
 same-length-5 c = search needs
@@ -44,7 +48,9 @@ same-length-8 : tie.Need-same-length-8
 same-length-8 c = search needs
 
 returns-2 : tie.Need-returns-2
-returns-2 c = c .before .before .before .before .before .before .before .before .copy-large .ensures
+returns-2 c =
+    let copy-large = c .before .before .before .before .before .before .before .before .copy-large in
+    copy-large .ensures
 
 pub copy-read-spec : {M : Type 1} → statement M
 copy-read-spec =

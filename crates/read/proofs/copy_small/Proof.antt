@@ -15,7 +15,9 @@ array-borrow-prefix-bytes c = omega (arith, c .before .before .before .before .b
 
 slice-aggregate-copy-by : tie.Need-slice-aggregate-copy-by
 unfolding bucketSize
-slice-aggregate-copy-by c = simp length-take (omega (arith, c .before .before .before .before .before .before .before .before .pre .1 .1 .1))
+slice-aggregate-copy-by c =
+    let start = c .before .before .before .before .before .before .before .before in
+    simp length-take (omega (arith, start .pre .1 .1 .1))
 
 copy-by-requires : tie.Need-copy-by-requires
 unfolding bucketSize
@@ -35,7 +37,9 @@ same-length-4 : tie.Need-same-length-4
 same-length-4 c = search needs
 
 returns : tie.Need-returns
-returns c = c .before .before .before .before .before .before .before .before .before .copy-by .ensures
+returns c =
+    let copy-by = c .before .before .before .before .before .before .before .before .before .copy-by in
+    copy-by .ensures
 
 pub copy-small-spec : {M : Type 1} → statement M
 copy-small-spec =

@@ -15,11 +15,14 @@ room-for-requires : tie.Need-room-for-requires
 room-for-requires c κs = search needs
 
 copy-requires : tie.Need-copy-requires
-copy-requires c κs = let start = c .before .before .before .before .before .before .before .before .before .before .before .before .before .before .before .before .before .before .before .before .before in
+copy-requires c κs =
+    let room-for = c .before .before .before .before .before .before .before .before .before .before .before .room-for in
+    let holds = c .before .before .before .before .before .before .before .before .before .before .before .before .before .before .before .before .holds in
+    let start = c .before .before .before .before .before .before .before .before .before .before .before .before .before .before .before .before .before .before .before .before .before in
     let a = start .args in
     let p = start .pre in
-    let room = c .before .before .before .before .before .before .before .before .before .before .before .room-for .ensures in
-    let left = left-placed (placesOf (a .s)) (p .1 .0) (p .1 .1) (a .b) (p .1 .2) _ (rw (c .before .before .before .before .before .before .before .before .before .before .before .before .before .before .before .before .holds .ensures) at (room .0)) in
+    let room = room-for .ensures in
+    let left = left-placed (placesOf (a .s)) (p .1 .0) (p .1 .1) (a .b) (p .1 .2) _ (rw (holds .ensures) at (room .0)) in
     (rw (left .sizes) (room .1), left .copies)
 
 same-length : tie.Need-same-length
@@ -32,15 +35,19 @@ same-length-3 : tie.Need-same-length-3
 same-length-3 c = search needs
 
 returns : tie.Need-returns
-returns c = let start = c .before .before .before .before .before .before .before .before .before .before .before .before .before .before .before .before .before .before .before .before .before .before .before .before .before .before .before .before in
+returns c =
+    let holds = c .before .before .before .before .before .before .before .before .before .before .before .before .before .before .before .before .before .before .before .before .before .before .before .holds in
+    let room-for = c .before .before .before .before .before .before .before .before .before .before .before .before .before .before .before .before .before .before .room-for in
+    let copy-kind = c .before .before .before .before .before .before .before .before .before .before .before .before .before .before .before .before .before .before .before .before .before .before .copy-kind in
+    let start = c .before .before .before .before .before .before .before .before .before .before .before .before .before .before .before .before .before .before .before .before .before .before .before .before .before .before .before .before in
     let a = start .args in
     let p = start .pre in
     let v = placesOf (a .s) in
-    let held = c .before .before .before .before .before .before .before .before .before .before .before .before .before .before .before .before .before .before .before .before .before .before .before .holds .ensures in
-    let room = rw held at (c .before .before .before .before .before .before .before .before .before .before .before .before .before .before .before .before .before .before .room-for .ensures .0) in
+    let held = holds .ensures in
+    let room = rw held at (room-for .ensures .0) in
     let left = left-placed v (p .1 .0) (p .1 .1) (a .b) (p .1 .2) _ room in
     let made = c .before .before .before .before .before .before .copy .ensures in (
-      made .0 ∙ copied v (p .1 .0) (p .1 .1) (a .b) (p .1 .2) _ room (c .before .before .before .before .before .before .before .before .before .before .before .before .before .before .before .before .before .before .before .before .before .before .copy-kind .result) (a .bytes .now) (rw held at (c .before .before .before .before .before .before .before .before .before .before .before .before .before .before .before .before .before .before .before .before .before .before .copy-kind .ensures)),
+      made .0 ∙ copied v (p .1 .0) (p .1 .1) (a .b) (p .1 .2) _ room (copy-kind .result) (a .bytes .now) (rw held at (copy-kind .ensures)),
       rw (left .sizes) at (made .1),
     )
 

@@ -40,10 +40,12 @@ same-length-4 c = search needs
 returns : tie.Need-returns
 unfolding viewOf tests refusal planOf
 returns c =
+    let if1 = c .before .before .before .before .before .before .before .before .before .before .before .before .before .if1 in
+    let read-bucket = c .before .before .before .before .before .before .before .before .read-bucket in
     let a = c .before .before .before .before .before .before .before .before .before .before .before .before .before .before .before .before .before .before .before .before .before .before .args in
     let tested = c .before .before .before .before .before .before .before .before .before .before .before .before .before .before .read-refusal in
-    let passed = c .before .before .before .before .before .before .before .before .before .before .before .before .before .if1 .taken in
-    c .before .before .before .before .before .before .before .before .read-bucket .ensures
+    let passed = if1 .taken in
+    read-bucket .ensures
     ∙ handed-taken (a .allowance) (readCall (a .b) (a .offset) (a .buffer .now)) (a .s) (viewOf (a .s)) (device (a .flash .now) (a .spare .now) (a .disk .now)) (tested .ensures .1 passed) (sym (tested .ensures .0) ∙ passed)
 
 same-length-5 : tie.Need-same-length-5

@@ -30,9 +30,12 @@ same-length-4 : tie.Need-same-length-4
 same-length-4 c = search needs
 
 returns : tie.Need-returns
-returns c = let a = c .before .before .before .before .before .before .before .before .before .before .before .before .before .before .before .args in
+returns c =
+    let stores-nothing = c .before .before .before .before .before .before .before .before .before .stores-nothing in
+    let if1 = c .before .before .before .before .before .before .before .before .if1 in
+    let a = c .before .before .before .before .before .before .before .before .before .before .before .before .before .before .before .args in
     let d = device (a .flash .now) (a .spare .now) (a .disk .now) in
-    rw (read-stays (a .s .sizes) d (a .b) (placesOf (a .s)) (sym (c .before .before .before .before .before .before .before .before .before .stores-nothing .ensures) ∙ c .before .before .before .before .before .before .before .before .if1 .taken), ← c .before .before .before .before .before .before .before .touched .ensures) (c .before .before .answer .ensures)
+    rw (read-stays (a .s .sizes) d (a .b) (placesOf (a .s)) (sym (stores-nothing .ensures) ∙ if1 .taken), ← c .before .before .before .before .before .before .before .touched .ensures) (c .before .before .answer .ensures)
 
 copy-read-requires : tie.Need-copy-read-requires
 copy-read-requires c κs = let start = c .before .before .before .before .before .before .before .before .before .before .before in
@@ -51,9 +54,13 @@ same-length-8 : tie.Need-same-length-8
 same-length-8 c = search needs
 
 returns-2 : tie.Need-returns-2
-returns-2 c = let a = c .before .before .before .before .before .before .before .before .before .before .before .before .before .before .before .before .before .before .before .before .args in
+returns-2 c =
+    let stores-nothing = c .before .before .before .before .before .before .before .before .before .before .before .before .before .before .stores-nothing in
+    let if1 = c .before .before .before .before .before .before .before .before .before .before .before .before .before .if1 in
+    let copy-read = c .before .before .before .before .before .before .before .before .copy-read in
+    let a = c .before .before .before .before .before .before .before .before .before .before .before .before .before .before .before .before .before .before .before .before .args in
     let d = device (a .flash .now) (a .spare .now) (a .disk .now) in
-    rw (read-copies (a .s .sizes) d (a .b) (placesOf (a .s)) (sym (c .before .before .before .before .before .before .before .before .before .before .before .before .before .before .stores-nothing .ensures) ∙ c .before .before .before .before .before .before .before .before .before .before .before .before .before .if1 .left)) (c .before .before .before .before .before .before .before .before .copy-read .ensures)
+    rw (read-copies (a .s .sizes) d (a .b) (placesOf (a .s)) (sym (stores-nothing .ensures) ∙ if1 .left)) (copy-read .ensures)
 
 pub read-bucket-spec : {M : Type 1} → statement M
 read-bucket-spec =

@@ -24,7 +24,9 @@ same-length-3 c = search needs
 
 returns-2 : tie.Need-returns-2
 unfolding roomFor after
-returns-2 c = (rw (c .before .before .before .before .before .before .before .before .before .before .if1 .left) (c .before .before .before .before .before .before .drop-oldest .ensures .0), c .before .before .before .before .before .before .drop-oldest .ensures .1)
+returns-2 c =
+    let if1 = c .before .before .before .before .before .before .before .before .before .before .if1 in
+    (rw (if1 .left) (c .before .before .before .before .before .before .drop-oldest .ensures .0), c .before .before .before .before .before .before .drop-oldest .ensures .1)
 
 pub room-for-spec : {M : Type 1} → statement M
 room-for-spec =

@@ -21,9 +21,11 @@ rescue-requires c κs = search needs
 
 finish-requires : tie.Need-finish-requires
 unfolding sizesOf
-finish-requires c κs = let a = c .before .before .before .before .before .before .before .before .before .before .before .before .before .before .before .before .before .before .before .before .before .args in
+finish-requires c κs =
+    let whole = c .before .before .before .before .before .before .before .before .before .before .whole in
+    let a = c .before .before .before .before .before .before .before .before .before .before .before .before .before .before .before .before .before .before .before .before .before .args in
     let d = device (a .flash .now) (a .spare .now) (a .disk .now) in
-    omega (arith, left-within (a .allowance) (recoverCall (a .z)) (a .s) (viewOf (a .s)) d (recover (a .z) d) (rw (c .before .before .before .before .before .before .before .before .before .before .whole .ensures) at (c .before .before .before .before .before .before .rescue .ensures .0)))
+    omega (arith, left-within (a .allowance) (recoverCall (a .z)) (a .s) (viewOf (a .s)) d (recover (a .z) d) (rw (whole .ensures) at (c .before .before .before .before .before .before .rescue .ensures .0)))
 
 same-length : tie.Need-same-length
 same-length c = search needs
@@ -36,10 +38,13 @@ same-length-3 c = search needs
 
 returns : tie.Need-returns
 unfolding sizesOf doneAnswer lentBuffer readBuffer
-returns c = let a = c .before .before .before .before .before .before .before .before .before .before .before .before .before .before .before .before .before .before .before .before .before .before .args in
+returns c =
+    let recovered = c .before .before .before .before .before .before .before .before .before .before .before .before .recovered in
+    let whole = c .before .before .before .before .before .before .before .before .before .before .before .whole in
+    let a = c .before .before .before .before .before .before .before .before .before .before .before .before .before .before .before .before .before .before .before .before .before .before .args in
     let d = device (a .flash .now) (a .spare .now) (a .disk .now) in
-    rw (c .finish .ensures, c .before .before .before .before .before .before .before .before .before .before .before .before .recovered .ensures ∙ same-state (a .z) d)
-    (handed-quiet (a .allowance) (recoverCall (a .z)) (a .s) (viewOf (a .s)) d (recover (a .z) d) refl refl (rw (c .before .before .before .before .before .before .before .before .before .before .before .whole .ensures) at (c .before .before .before .before .before .before .before .rescue .ensures .0)))
+    rw (c .finish .ensures, recovered .ensures ∙ same-state (a .z) d)
+    (handed-quiet (a .allowance) (recoverCall (a .z)) (a .s) (viewOf (a .s)) d (recover (a .z) d) refl refl (rw (whole .ensures) at (c .before .before .before .before .before .before .before .rescue .ensures .0)))
 
 pub recover-by-spec : {M : Type 1} → statement M
 recover-by-spec =

@@ -37,27 +37,34 @@ array-share-prefix-copies c = let s = c .before .before .before .before .before 
     lent-fits (length (s .args .order .now)) (c .before .before .before .before .before .before .before .blank-column .result) (c .before .before .copy-columns .ensures .0) (column-length z d (isChosen z d) (s .pre .1 .0) refl)
 
 slice-aggregate-recover-by : tie.Need-slice-aggregate-recover-by
-slice-aggregate-recover-by c = let s = c .before .before .before .before .before .before .before .before .before .before .before .before .before .before .before in let z = s .args .z in let d = spareOnly (s .args .spare .now) in
-    sym (ap length (lent-again (length (s .args .order .now)) (c .before .before .before .before .before .before .before .before .blank-column .result) (c .before .before .before .copy-columns .ensures .0) (column-length z d (isChosen z d) (s .pre .1 .0) refl)) ∙ column-length z d (isChosen z d) (s .pre .1 .0) refl)
+slice-aggregate-recover-by c =
+    let blank-column = c .before .before .before .before .before .before .before .before .blank-column in
+    let s = c .before .before .before .before .before .before .before .before .before .before .before .before .before .before .before in let z = s .args .z in let d = spareOnly (s .args .spare .now) in
+    sym (ap length (lent-again (length (s .args .order .now)) (blank-column .result) (c .before .before .before .copy-columns .ensures .0) (column-length z d (isChosen z d) (s .pre .1 .0) refl)) ∙ column-length z d (isChosen z d) (s .pre .1 .0) refl)
 
 array-share-prefix-dropped : tie.Need-array-share-prefix-dropped
 array-share-prefix-dropped c = let s = c .before .before .before .before .before .before .before .before .before .before .before .before .before .before .before in let z = s .args .z in let d = spareOnly (s .args .spare .now) in
     lent-fits (length (s .args .order .now)) (c .before .before .before .before .before .before .before .blank-column2 .result) (c .before .before .before .copy-columns .ensures .1) (column-length z d (isDroppedCopy z d) (s .pre .1 .0) refl)
 
 slice-aggregate-recover-by-2 : tie.Need-slice-aggregate-recover-by-2
-slice-aggregate-recover-by-2 c = let s = c .before .before .before .before .before .before .before .before .before .before .before .before .before .before .before .before in let z = s .args .z in let d = spareOnly (s .args .spare .now) in
-    sym (ap length (lent-again (length (s .args .order .now)) (c .before .before .before .before .before .before .before .before .blank-column2 .result) (c .before .before .before .before .copy-columns .ensures .1) (column-length z d (isDroppedCopy z d) (s .pre .1 .0) refl)) ∙ column-length z d (isDroppedCopy z d) (s .pre .1 .0) refl)
+slice-aggregate-recover-by-2 c =
+    let blank-column2 = c .before .before .before .before .before .before .before .before .blank-column2 in
+    let s = c .before .before .before .before .before .before .before .before .before .before .before .before .before .before .before .before in let z = s .args .z in let d = spareOnly (s .args .spare .now) in
+    sym (ap length (lent-again (length (s .args .order .now)) (blank-column2 .result) (c .before .before .before .before .copy-columns .ensures .1) (column-length z d (isDroppedCopy z d) (s .pre .1 .0) refl)) ∙ column-length z d (isDroppedCopy z d) (s .pre .1 .0) refl)
 
 recover-by-requires : tie.Need-recover-by-requires
-recover-by-requires c κs = let s = c .before .before .before .before .before .before .before .before .before .before .before .before .before .before .before .before .before .before .before in let z = s .args .z in let d = spareOnly (s .args .spare .now) in
+recover-by-requires c κs =
+    let blank-column = c .before .before .before .before .before .before .before .before .before .before .before .before .blank-column in
+    let blank-column2 = c .before .before .before .before .before .before .before .before .before .before .before .blank-column2 in
+    let s = c .before .before .before .before .before .before .before .before .before .before .before .before .before .before .before .before .before .before .before in let z = s .args .z in let d = spareOnly (s .args .spare .now) in
     let n = length (s .args .order .now) in (
       s .pre .0,
       record {
         order-is = s .pre .1 .0;
         writes-are = s .pre .1 .1 .0;
         dropped-writes-are = s .pre .1 .1 .1;
-        copies-are = lent-again n (c .before .before .before .before .before .before .before .before .before .before .before .before .blank-column .result) (c .before .before .before .before .before .before .before .copy-columns .ensures .0) (column-length z d (isChosen z d) (s .pre .1 .0) refl);
-        dropped-copies-are = lent-again n (c .before .before .before .before .before .before .before .before .before .before .before .blank-column2 .result) (c .before .before .before .before .before .before .before .copy-columns .ensures .1) (column-length z d (isDroppedCopy z d) (s .pre .1 .0) refl);
+        copies-are = lent-again n (blank-column .result) (c .before .before .before .before .before .before .before .copy-columns .ensures .0) (column-length z d (isChosen z d) (s .pre .1 .0) refl);
+        dropped-copies-are = lent-again n (blank-column2 .result) (c .before .before .before .before .before .before .before .copy-columns .ensures .1) (column-length z d (isDroppedCopy z d) (s .pre .1 .0) refl);
       },
     )
 

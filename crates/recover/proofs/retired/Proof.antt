@@ -96,8 +96,10 @@ gather-requires-3 c κs = let s = c .before .before .before .before .before .bef
     (ap length (s .pre .1 .1 .1 .0) ∙ beside s (isDroppedWrite z d), omega (arith, ap length (c .gather2 .ensures), length-append (listOf (c .before .gather .result)) (picked (s .args .dropped-copies .now) (s .args .order .now)), ap length first, ap length (copies-listed s), ap length (writes-listed s), gc-fits z d, s .pre .0 .limits .body-high, s .pre .0 .limits .c-high))
 
 returns : tie.Need-returns
-returns c = let s = c .before .before .before .before .before .before .before .before .before .before .before .before .before .before in let z = s .args .z in let d = spareOnly (s .args .spare .now) in
-    let first = first-is s (c .before .before .before .before .before .before .old-column .ensures) (c .before .before .before .before .before .before .before .before .blank-column .result) (c .before .before .before .empty .ensures) (c .before .before .gather .ensures) in
+returns c =
+    let blank-column = c .before .before .before .before .before .before .before .before .blank-column in
+    let s = c .before .before .before .before .before .before .before .before .before .before .before .before .before .before in let z = s .args .z in let d = spareOnly (s .args .spare .now) in
+    let first = first-is s (c .before .before .before .before .before .before .old-column .ensures) (blank-column .result) (c .before .before .before .empty .ensures) (c .before .before .gather .ensures) in
     c .gather3 .ensures ∙ rw (c .before .gather2 .ensures, first, copies-listed s, writes-listed s) (append-assoc (oldCopies z d) (droppedCopies z d) (droppedWrites z d)) ∙ gc-is z d
 
 pub retired-spec : {M : Type 1} → statement M

@@ -20,7 +20,9 @@ cast-c : tie.Need-cast-c
 cast-c c = omega (arith, c .shared-slice-known4 .given (c .before .before .next-index .result))
 
 mul-piece-range : tie.Need-mul-piece-range
-mul-piece-range c = omega (arith, products (c .before .before .before .before .before .before .before .before .pre .0 .0))
+mul-piece-range c =
+    let start = c .before .before .before .before .before .before .before .before in
+    omega (arith, products (start .pre .0 .0))
 
 piece-range-requires : tie.Need-piece-range-requires
 unfolding bucketSize

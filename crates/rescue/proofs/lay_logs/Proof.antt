@@ -14,16 +14,16 @@ use Rattle.rescue.proofs.Places.{listed, laid-passed, laid-next, laid-l
 use Rattle.rescue.proofs.lay_logs.Statement.{statement}
 use Rattle.rescue.proofs.lay_logs.Tie as tie
 
--- b stands at the place, and the window shows what was laid up to there
+-- b stands there, and the window shows what was laid up to there
 abbrev Inv-loop : tie.InvT-loop
-Inv-loop z b order writes flash spare window₀ place₀ window place =
-    (place ≤ length writes) × (length window ≡ length window₀) × (place < length writes → b ≡ getD writes place 0)
+Inv-loop z b order writes flash spare window₀ at₀ window at =
+    (at ≤ length writes) × (length window ≡ length window₀) × (at < length writes → b ≡ getD writes at 0)
     × ((base : List ℕ) → length base ≡ bucketSize z → window₀ ≡ part base 0 (length window₀)
     → (laid : List ℕ) × (length laid ≡ bucketSize z) × (window ≡ part laid 0 (length window₀))
-    × (mergeAll z (chip flash spare) (beside b (drop place writes) (drop place order)) laid ≡ mergeAll z (chip flash spare) (beside b writes order) base))
+    × (mergeAll z (chip flash spare) (beside b (drop at writes) (drop at order)) laid ≡ mergeAll z (chip flash spare) (beside b writes order) base))
 
 abbrev μ-loop : tie.MeasureT-loop
-μ-loop z b order writes flash spare window₀ place₀ window place = length writes - place
+μ-loop z b order writes flash spare window₀ at₀ window at = length writes - at
 
 next-index-requires : tie.Need-next-index-requires Inv-loop μ-loop
 next-index-requires c κs = search needs
@@ -40,18 +40,20 @@ loop-holds c =
     )
 
 shared-slice-read-merge-range : tie.Need-shared-slice-read-merge-range Inv-loop μ-loop
-shared-slice-read-merge-range c = omega (arith, c .before .loop-test .taken, c .before .before .before .before .before .before .before .before .before .pre .1 .0 .0)
+shared-slice-read-merge-range c =
+    let start = c .before .before .before .before .before .before .before .before .before in
+    omega (arith, c .before .loop-test .taken, start .pre .1 .0 .0)
 
 cast-merge-range : tie.Need-cast-merge-range Inv-loop μ-loop
-cast-merge-range c = omega (arith, c .shared-slice-known5 .given (c .before .before .loop .place))
+cast-merge-range c = omega (arith, c .shared-slice-known5 .given (c .before .before .loop .at))
 
 merge-range-requires : tie.Need-merge-range-requires Inv-loop μ-loop
 merge-range-requires c κs =
     let start = c .before .before .before .before .before .before .before .before .before .before in
     let x = start .args in
     let l = c .before .before .before .loop in
-    let here : l .place < length (x .order .now) = omega (arith, c .before .before .loop-test .taken, start .pre .1 .0 .0) in
-    (start .pre .0, (listed (body (x .z)) (x .order .now) (start .pre .1 .0 .1) (l .place) here, omega (arith, l .inv .1, start .pre .1 .1)))
+    let here : l .at < length (x .order .now) = omega (arith, c .before .before .loop-test .taken, start .pre .1 .0 .0) in
+    (start .pre .0, (listed (body (x .z)) (x .order .now) (start .pre .1 .0 .1) (l .at) here, omega (arith, l .inv .1, start .pre .1 .1)))
 
 add-next-index : tie.Need-add-next-index Inv-loop μ-loop
 add-next-index c = omega (arith, c .before .before .before .before .before .loop-test .taken)
@@ -69,19 +71,19 @@ loop-again c =
     let l = c .before .before .before .before .before .before .before .loop in
     let d = chip (x .flash .now) (x .spare .now) in
     let found = c .next-index2 .ensures in
-    let here : l .place < length (x .writes .now) = c .before .before .before .before .before .before .loop-test .taken in
-    let inside = listed (body (x .z)) (x .order .now) (start .pre .1 .0 .1) (l .place) (omega (arith, here, start .pre .1 .0 .0)) in (
+    let here : l .at < length (x .writes .now) = c .before .before .before .before .before .before .loop-test .taken in
+    let inside = listed (body (x .z)) (x .order .now) (start .pre .1 .0 .1) (l .at) (omega (arith, here, start .pre .1 .0 .0)) in (
       found .0 .high,
       omega (arith, c .before .before .window .given, l .inv .1),
       found .1,
       λ base e shows.
           let w = l .inv .3 base e shows in
-          let laid = merge (x .z) d (getD (x .order .now) (l .place) 0) (w .0) in (
+          let laid = merge (x .z) d (getD (x .order .now) (l .at) 0) (w .0) in (
             laid,
             laid-size (start .pre .0) inside (w .0) (w .1),
             rw (l .inv .1) at (c .before .before .before .merge-range .ensures (w .0) (w .1) (rw (l .inv .1) (w .2))),
             sym (laid-passed (x .z) d (x .b) (x .writes .now) (x .order .now) (start .pre .1 .0 .0) laid (found .0))
-                ∙ sym (laid-next (x .z) d (x .b) (x .writes .now) (x .order .now) (start .pre .1 .0 .0) (l .place) (w .0) here (l .inv .2 here)) ∙ w .3,
+                ∙ sym (laid-next (x .z) d (x .b) (x .writes .now) (x .order .now) (start .pre .1 .0 .0) (l .at) (w .0) here (l .inv .2 here)) ∙ w .3,
           ),
     )
 
@@ -95,7 +97,7 @@ returns c = λ base e shows.
     let l = c .before .loop in
     let w = l .inv .3 base e shows in
     let d = chip (x .flash .now) (x .spare .now) in
-    w .2 ∙ ap (λ (bytes : List ℕ). part bytes 0 (length (x .window .now))) (sym (laid-last (x .z) d (x .b) (x .writes .now) (x .order .now) (start .pre .1 .0 .0) (l .place) (w .0) (omega arith)) ∙ w .3)
+    w .2 ∙ ap (λ (bytes : List ℕ). part bytes 0 (length (x .window .now))) (sym (laid-last (x .z) d (x .b) (x .writes .now) (x .order .now) (start .pre .1 .0 .0) (l .at) (w .0) (omega arith)) ∙ w .3)
 
 pub lay-logs-spec : {M : Type 1} → statement M
 lay-logs-spec =

@@ -37,7 +37,9 @@ same-length : tie.Need-same-length
 same-length c = search needs
 
 returns : tie.Need-returns
-returns c = λ disk len shows.
+returns c =
+    let lay-copy = c .before .before .before .before .before .before .before .before .lay-copy in
+    λ disk len shows.
     let start = c .before .before .before .before .before .before .before .before .before .before .before .before .before .before .before .before .before in
     let x = start .args in
     let o = spareOnly (x .spare .now) in
@@ -47,7 +49,7 @@ returns c = λ disk len shows.
     let b = start .pre .1 .1 .0 .0 in
     let low : x .b < nowhere = omega (arith, start .pre .0 .limits .b-high) in
     let flushed = sym (flushed-stands (x .z) o (x .b) low) ∙ ap (member (x .b)) (sym (listed .dropped-writes-are)) ∙ sym (c .before .before .before .before .before .occurs .ensures) ∙ c .before .before .before .before .if1 .taken in
-    let base = base-shown (start .pre .0) disk len (x .b) b (listed .order-is) (listed .copies-are) n (x .window .now) _ (c .before .before .before .before .before .before .before .before .lay-copy .ensures) shows in
+    let base = base-shown (start .pre .0) disk len (x .b) b (listed .order-is) (listed .copies-are) n (x .window .now) _ (lay-copy .ensures) shows in
     rw (← rescued-laid (start .pre .0) disk len (x .b) b (listed .order-is) (listed .writes-are) flushed)
     (rw (c .before .before .before .before .before .before .before .window .given) at (c .before .before .lay-logs .ensures (baseBytes (x .z) d (x .b)) (base-size (start .pre .0) disk len (x .b) b) (rw (c .before .before .before .before .before .before .before .window .given) base)))
 

@@ -20,7 +20,9 @@ abbrev μ-loop : tie.MeasureT-loop
 μ-loop z order writes dropped-writes copies unwritten flash spare disk₀ end run₀ b₀ disk run b = end - b
 
 next-of-requires : tie.Need-next-of-requires Inv-loop μ-loop
-next-of-requires c κs = (omega arith, c .before .before .before .before .before .before .before .before .pre .0 .limits .b-high)
+next-of-requires c κs =
+    let start = c .before .before .before .before .before .before .before .before in
+    (omega arith, start .pre .0 .limits .b-high)
 
 loop-holds : tie.Need-loop-holds Inv-loop μ-loop
 loop-holds c =
@@ -50,10 +52,14 @@ rescue-one-requires c κs =
     )
 
 add-next-of : tie.Need-add-next-of Inv-loop μ-loop
-add-next-of c = omega (arith, c .before .before .before .before .loop-test .taken, c .before .before .before .before .before .before .before .before .before .before .before .before .before .before .before .pre .0 .limits .b-high)
+add-next-of c =
+    let start = c .before .before .before .before .before .before .before .before .before .before .before .before .before .before .before in
+    omega (arith, c .before .before .before .before .loop-test .taken, start .pre .0 .limits .b-high)
 
 next-of-requires-2 : tie.Need-next-of-requires-2 Inv-loop μ-loop
-next-of-requires-2 c κs = (omega (arith, c .before .before .before .before .loop-test .taken, c .before .before .before .before .before .before .before .before .before .before .before .before .before .before .before .pre .0 .limits .b-high), c .before .before .before .before .before .before .before .before .before .before .before .before .before .before .before .pre .0 .limits .b-high)
+next-of-requires-2 c κs =
+    let start = c .before .before .before .before .before .before .before .before .before .before .before .before .before .before .before in
+    (omega (arith, c .before .before .before .before .loop-test .taken, start .pre .0 .limits .b-high), start .pre .0 .limits .b-high)
 
 loop-less : tie.Need-loop-less Inv-loop μ-loop
 loop-less c =
@@ -82,7 +88,9 @@ loop-again c =
     )
 
 same-length : tie.Need-same-length Inv-loop μ-loop
-same-length c = omega (arith, c .before .loop .inv .1, c .before .before .before .before .before .before .before .before .before .before .before .pre .0 .lent .disk-length)
+same-length c =
+    let start = c .before .before .before .before .before .before .before .before .before .before .before in
+    omega (arith, c .before .loop .inv .1, start .pre .0 .lent .disk-length)
 
 returns : tie.Need-returns Inv-loop μ-loop
 unfolding recover

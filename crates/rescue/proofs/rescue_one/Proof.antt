@@ -26,10 +26,14 @@ inside c = omega (arith, nth-inside (c .args .b) (c .args .z .b) (c .args .z .p 
 
 -- and so do those of the units that are made
 within : (c : tie.After-allowed) → c .allowed .result * c .before .before .before .before .before .before .before .before .before .args .z .s ≤ c .before .before .before .before .before .before .before .before .before .args .z .p * c .before .before .before .before .before .before .before .before .before .args .z .s
-within c = mul-le-mul-right (c .before .before .before .before .before .before .before .before .before .args .z .s) (omega (arith, c .allowed .ensures))
+within c =
+    let start = c .before .before .before .before .before .before .before .before .before in
+    mul-le-mul-right (start .args .z .s) (omega (arith, c .allowed .ensures))
 
 mul-at : tie.Need-mul-at
-mul-at c = omega (arith, products (c .before .before .before .before .before .before .before .before .pre .0 .limits))
+mul-at c =
+    let start = c .before .before .before .before .before .before .before .before in
+    omega (arith, products (start .pre .0 .limits))
 
 mul-at-2 : tie.Need-mul-at-2
 mul-at-2 c = omega (arith, inside (c .before .before .before .before .before .before .before .before))
@@ -38,7 +42,9 @@ allowed-requires : tie.Need-allowed-requires
 allowed-requires c κs = search needs
 
 mul-end : tie.Need-mul-end
-mul-end c = omega (arith, within (c .before), products (c .before .before .before .before .before .before .before .before .before .before .pre .0 .limits))
+mul-end c =
+    let start = c .before .before .before .before .before .before .before .before .before .before in
+    omega (arith, within (c .before), products (start .pre .0 .limits))
 
 add-end : tie.Need-add-end
 add-end c = omega (arith, within (c .before), inside (c .before .before .before .before .before .before .before .before .before .before))

@@ -31,8 +31,10 @@ stands-alone-requires : tie.Need-stands-alone-requires Inv-loop μ-loop
 stands-alone-requires c κs = (c .before .before .before .before .before .before .pre, c .before .loop-test .taken)
 
 returns : tie.Need-returns Inv-loop μ-loop
-returns c = let l = c .before .before .before .before .loop in
-    sym (not-alone (c .before .before .before .before .before .before .before .before .args .items .now) (l .i) (omega arith) (c .before .stands-alone .ensures .1 (not-true _ (c .if1 .taken))))
+returns c =
+    let start = c .before .before .before .before .before .before .before .before in
+    let l = c .before .before .before .before .loop in
+    sym (not-alone (start .args .items .now) (l .i) (omega arith) (c .before .stands-alone .ensures .1 (not-true _ (c .if1 .taken))))
 
 add-i : tie.Need-add-i Inv-loop μ-loop
 add-i c = omega arith
@@ -41,8 +43,10 @@ loop-less : tie.Need-loop-less Inv-loop μ-loop
 loop-less c = omega arith
 
 loop-again : tie.Need-loop-again Inv-loop μ-loop
-loop-again c = let l = c .before .before .before .before .loop in
-    (omega arith, λ j h. more (c .before .before .before .before .before .before .before .before .args .items .now) (c .before .before .before .before .before .fill-slots .last .1 .0) (l .i) j (l .inv .1 j) (c .before .stands-alone .ensures .0 (not-false _ (c .if1 .left))) (ℕ-discrete j (l .i)) h)
+loop-again c =
+    let start = c .before .before .before .before .before .before .before .before in
+    let l = c .before .before .before .before .loop in
+    (omega arith, λ j h. more (start .args .items .now) (c .before .before .before .before .before .fill-slots .last .1 .0) (l .i) j (l .inv .1 j) (c .before .stands-alone .ensures .0 (not-false _ (c .if1 .left))) (ℕ-discrete j (l .i)) h)
 
 returns-2 : tie.Need-returns-2 Inv-loop μ-loop
 returns-2 c = let l = c .before .loop in

@@ -21,8 +21,8 @@ told : (o : tie.Start) (tag : List ℕ) → fields tag ≡ o .args .f → zeros 
 unfolding fields ordinal epoch back
 told o tag e h t p = rw (← p, ← h, ← e) (first-test (o .args .z) tag (omega (arith, o .pre .s-low)))
 
-cast-place : tie.Need-cast-place
-cast-place c = search needs
+cast-within : tie.Need-cast-within
+cast-within c = search needs
 
 returns : tie.Need-returns
 returns c = λ tag e h. told (c .before .before .before .before .before) tag e h false (not-true _ (c .if1 .taken))
@@ -34,4 +34,4 @@ returns-2 : tie.Need-returns-2
 returns-2 c = λ tag e h. c .starts .ensures tag e ∙ told (c .before .before .before .before .before .before) tag e h true (not-false _ (c .before .if1 .left))
 
 pub first-fits-spec : {M : Type 1} → statement M
-first-fits-spec = tie.close (tie.spec cast-place returns starts-requires returns-2)
+first-fits-spec = tie.close (tie.spec cast-within returns starts-requires returns-2)

@@ -65,7 +65,9 @@ add-result c = search needs
 
 returns : tie.Need-returns
 unfolding lowFirst
-returns c = let i = c .before .before .before .before .before .before .before .before .before .before .before .args .i in
+returns c =
+    let start = c .before .before .before .before .before .before .before .before .before .before .before in
+    let i = start .args .i in
     let e2 : i + 1 + 1 ≡ i + 2 = omega arith in
     let e3 : i + 2 + 1 ≡ i + 3 = omega arith in
     let e4 : i + 3 + 1 ≡ i + 4 = omega arith in

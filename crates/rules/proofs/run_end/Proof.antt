@@ -72,8 +72,10 @@ loop-holds c = let o = c .before .before .before .before .before .before .before
 )
 
 add-first : tie.Need-add-first Inv-loop μ-loop
-add-first c = let o = c .before .before .before .before .before .before .before .before .before in let a = o .args in let i = c .before .loop .inv in
-    omega (arith, next-fits (a .z) (a .spare .now) (a .c) (o .pre .0) (o .pre .1 .0) (λ j. omega (arith, c .before .before .before .before .before .before .before .before .shared-slice-known .given j)) _ _ _ _ (i .2) (omega (arith, c .loop-test .taken)))
+add-first c =
+    let shared-slice-known = c .before .before .before .before .before .before .before .before .shared-slice-known in
+    let o = c .before .before .before .before .before .before .before .before .before in let a = o .args in let i = c .before .loop .inv in
+    omega (arith, next-fits (a .z) (a .spare .now) (a .c) (o .pre .0) (o .pre .1 .0) (λ j. omega (arith, shared-slice-known .given j)) _ _ _ _ (i .2) (omega (arith, c .loop-test .taken)))
 
 mul-are-halves : tie.Need-mul-are-halves Inv-loop μ-loop
 mul-are-halves c = omega (arith, room (c .before .before .before .before .before .before .before .before .before .before) (c .before .before .loop .e) (omega (arith, c .before .loop-test .taken, c .before .before .before .before .before .log-end .ensures .1)))
@@ -97,9 +99,11 @@ loop-less : tie.Need-loop-less Inv-loop μ-loop
 loop-less c = omega arith
 
 loop-again : tie.Need-loop-again Inv-loop μ-loop
-loop-again c = let o = c .before .before .before .before .before .before .before .before .before .before .before .before in let a = o .args in let l = c .before .before .before .before .loop in let w = c .before .before .before .before .before .before .before .log-end in
+loop-again c =
+    let shared-slice-known = c .before .before .before .before .before .before .before .before .before .before .before .shared-slice-known in
+    let o = c .before .before .before .before .before .before .before .before .before .before .before .before in let a = o .args in let l = c .before .before .before .before .loop in let w = c .before .before .before .before .before .before .before .log-end in
     let q : w .result - (l .e + 1) ≡ w .result - l .e - 1 = omega arith in
-    (omega arith, omega arith, rw q (run-grows (a .z) (a .spare .now) (a .c) (o .pre .0) (o .pre .1 .0) (λ j. omega (arith, c .before .before .before .before .before .before .before .before .before .before .before .shared-slice-known .given j)) _ _ _ _ (l .inv .2) (omega arith) (omega (arith, w .ensures .1)) _ (c .before .are-halves .ensures) (not-false _ (c .if1 .left))))
+    (omega arith, omega arith, rw q (run-grows (a .z) (a .spare .now) (a .c) (o .pre .0) (o .pre .1 .0) (λ j. omega (arith, shared-slice-known .given j)) _ _ _ _ (l .inv .2) (omega arith) (omega (arith, w .ensures .1)) _ (c .before .are-halves .ensures) (not-false _ (c .if1 .left))))
 
 returns-2 : tie.Need-returns-2 Inv-loop μ-loop
 returns-2 c = (c .before .loop .inv .0, c .before .loop .inv .2 .fits)

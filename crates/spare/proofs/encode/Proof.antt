@@ -37,7 +37,9 @@ cast-t27 c = search needs
 
 returns : tie.Need-returns
 unfolding tag tagBytes
-returns c = rw (add-sub-cancel (c .before .before .before .before .before .before .before .before .before .before .args .f .last) 1)
+returns c =
+    let start = c .before .before .before .before .before .before .before .before .before .before in
+    rw (add-sub-cancel (start .args .f .last) 1)
 
 pub encode-spec : {M : Type 1} → statement M
 encode-spec =

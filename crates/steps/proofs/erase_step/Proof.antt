@@ -31,13 +31,19 @@ cast-head : tie.Need-cast-head
 cast-head c = search needs
 
 erase-bucket-requires : tie.Need-erase-bucket-requires
-erase-bucket-requires c κs = let s = c .before .before .before .before .before .before .before .before .before .args .s in
+erase-bucket-requires c κs =
+    let start = c .before .before .before .before .before .before .before .before .before in
+    let s = start .args .s in
     let some : empty (listOf (s .gc)) ≡ false = empty-length (listOf (s .gc)) ∙ ne-eqb _ _ (λ z. c .before .before .before .before .if1 .left (c .before .before .before .before .before .used .ensures .0 ∙ z)) in
-    (c .before .before .before .before .before .before .before .before .before .pre .0, rw (c .before .before .before .head .ensures) (on-chip (s .sizes) _ (head-below (body (s .sizes)) (listOf (s .gc)) (c .before .before .before .before .before .before .before .before .before .pre .1 .gc) some)))
+    (start .pre .0, rw (c .before .before .before .head .ensures) (on-chip (s .sizes) _ (head-below (body (s .sizes)) (listOf (s .gc)) (start .pre .1 .gc) some)))
 
 freed-requires : tie.Need-freed-requires
-freed-requires c κs = let s = c .before .before .before .before .before .before .before .before .before .before .before .before .before .before .before .before .args .s in
-    freed-bounded (placesOf s) (c .before .before .before .before .before .before .before .before .before .before .before .before .before .before .before .before .pre .1 .bounded) (empty-length (listOf (s .gc)) ∙ ne-eqb _ _ (λ z. c .before .before .before .before .before .before .before .before .before .before .before .if1 .left (c .before .before .before .before .before .before .before .before .before .before .before .before .used .ensures .0 ∙ z)))
+freed-requires c κs =
+    let start = c .before .before .before .before .before .before .before .before .before .before .before .before .before .before .before .before in
+    let if1 = c .before .before .before .before .before .before .before .before .before .before .before .if1 in
+    let used = c .before .before .before .before .before .before .before .before .before .before .before .before .used in
+    let s = start .args .s in
+    freed-bounded (placesOf s) (start .pre .1 .bounded) (empty-length (listOf (s .gc)) ∙ ne-eqb _ _ (λ z. if1 .left (used .ensures .0 ∙ z)))
 
 same-length : tie.Need-same-length
 same-length c = search needs
@@ -50,9 +56,14 @@ same-length-3 c = search needs
 
 returns-2 : tie.Need-returns-2
 unfolding after eraseStep runAll
-returns-2 c = let gc = listOf (c .before .before .before .before .before .before .before .before .before .before .before .before .before .before .before .before .before .args .s .gc) in
-    let some : empty gc ≡ false = empty-length gc ∙ ne-eqb _ _ (λ z. c .before .before .before .before .before .before .before .before .before .before .before .before .if1 .left (c .before .before .before .before .before .before .before .before .before .before .before .before .before .used .ensures .0 ∙ z)) in
-    (rw (c .before .before .before .before .before .before .before .erase-bucket .ensures .0, c .freed .ensures, c .before .before .before .before .before .before .before .before .before .before .before .head .ensures, some), c .before .before .before .before .before .before .before .erase-bucket .ensures .1)
+returns-2 c =
+    let start = c .before .before .before .before .before .before .before .before .before .before .before .before .before .before .before .before .before in
+    let if1 = c .before .before .before .before .before .before .before .before .before .before .before .before .if1 in
+    let used = c .before .before .before .before .before .before .before .before .before .before .before .before .before .used in
+    let head = c .before .before .before .before .before .before .before .before .before .before .before .head in
+    let gc = listOf (start .args .s .gc) in
+    let some : empty gc ≡ false = empty-length gc ∙ ne-eqb _ _ (λ z. if1 .left (used .ensures .0 ∙ z)) in
+    (rw (c .before .before .before .before .before .before .before .erase-bucket .ensures .0, c .freed .ensures, head .ensures, some), c .before .before .before .before .before .before .before .erase-bucket .ensures .1)
 
 pub erase-step-spec : {M : Type 1} → statement M
 erase-step-spec =

@@ -42,9 +42,10 @@ loop-less c = search needs
 
 loop-again : tie.Need-loop-again Inv-loop μ-loop
 loop-again c =
+    let start = c .before .before .before .before .before .before .before .before .before in
     let l = c .before .before .before .before .before .before .loop in
     let a = c .before .before .before .before .before .before .before .before .before .args in
-    (omega arith, search needs, c .before .before .put-byte .ensures ∙ rw (l .inv .2) (put-more (a .out .now) (a .at) (a .bytes .now) (l .i) (omega arith) (omega (arith, c .before .before .before .before .before .before .before .before .before .pre))))
+    (omega arith, search needs, c .before .before .put-byte .ensures ∙ rw (l .inv .2) (put-more (a .out .now) (a .at) (a .bytes .now) (l .i) (omega arith) (omega (arith, start .pre))))
 
 same-length : tie.Need-same-length Inv-loop μ-loop
 same-length c = search needs

@@ -36,14 +36,16 @@ add-result c = search needs
 
 same-length : tie.Need-same-length
 same-length c =
-    let e : length (c .before .before .put-bytes2 .last .0) ≡ length (c .before .before .before .before .before .before .before .before .before .before .before .args .out .now) = omega arith in
+    let start = c .before .before .before .before .before .before .before .before .before .before .before in
+    let e : length (c .before .before .put-bytes2 .last .0) ≡ length (start .args .out .now) = omega arith in
     simp length-set e
 
 returns : tie.Need-returns
 returns c =
+    let start = c .before .before .before .before .before .before .before .before .before .before .before in
     let a = c .before .before .before .before .before .before .before .before .before .before .before .args in (
       sym (shown-length (a .answer) (a .stores) (a .bytes .now)),
-      rw (c .before .before .put-bytes2 .ensures, c .before .before .before .before .before .before .put-bytes .ensures) (put-shown (a .answer) (a .stores) (a .bytes .now) (a .out .now) (c .before .before .before .before .before .before .before .before .before .before .before .pre .1)),
+      rw (c .before .before .put-bytes2 .ensures, c .before .before .before .before .before .before .put-bytes .ensures) (put-shown (a .answer) (a .stores) (a .bytes .now) (a .out .now) (start .pre .1)),
     )
 
 pub show-spec : {M : Type 1} → statement M

@@ -32,7 +32,10 @@ same-length-6 : tie.Need-same-length-6
 same-length-6 c = search needs
 
 returns : tie.Need-returns
-returns c = let adv = c .before .before .before .before .before .before .before .before .before .before .before .before .advance .ensures .1 in (adv .0, omega (arith, adv .1, c .before .before .before .before .before .before .before .before .before .before .before .before .before .before .before .before .before .before .before .with-room .ensures .2), adv .2)
+returns c =
+    let advance = c .before .before .before .before .before .before .before .before .before .before .before .before .advance in
+    let with-room = c .before .before .before .before .before .before .before .before .before .before .before .before .before .before .before .before .before .before .before .with-room in
+    let adv = advance .ensures .1 in (adv .0, omega (arith, adv .1, with-room .ensures .2), adv .2)
 
 pub step-spec : {M : Type 1} → statement M
 step-spec =

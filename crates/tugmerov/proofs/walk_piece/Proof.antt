@@ -19,14 +19,25 @@ loop-holds : tie.Need-loop-holds Inv-loop μ-loop
 loop-holds c = let start = c .before .before .before .before .before .before .before in (sound-again (start .args .w) _ _ _ _ _ _ _ (start .pre .0) refl refl (start .pre .0 .printed-room), refl, refl, refl, refl, refl, refl)
 
 step-requires : tie.Need-step-requires Inv-loop μ-loop
-step-requires c κs = (c .before .before .before .before .before .before .before .before .loop .inv .0, (c .before .before .before .before .before .before .if1 .taken, omega (arith, c .before .before .before .before .before .before .before .before .loop .inv .6, c .before .before .before .before .before .before .before .before .before .before .before .before .before .before .before .before .pre .1)))
+step-requires c κs =
+    let loop = c .before .before .before .before .before .before .before .before .loop in
+    let start = c .before .before .before .before .before .before .before .before .before .before .before .before .before .before .before .before in
+    (loop .inv .0, (c .before .before .before .before .before .before .if1 .taken, omega (arith, loop .inv .6, start .pre .1)))
 
 loop-less : tie.Need-loop-less Inv-loop μ-loop
-loop-less c = omega (arith, c .before .before .before .before .before .before .before .before .before .before .before .before .step .ensures .1, c .before .before .before .before .before .before .before .before .before .before .before .before .step .ensures .2, c .before .before .before .before .before .before .before .before .before .before .before .before .before .before .before .before .before .before .before .if1 .taken)
+loop-less c =
+    let step = c .before .before .before .before .before .before .before .before .before .before .before .before .step in
+    let if1 = c .before .before .before .before .before .before .before .before .before .before .before .before .before .before .before .before .before .before .before .if1 in
+    omega (arith, step .ensures .1, step .ensures .2, if1 .taken)
 
 loop-again : tie.Need-loop-again Inv-loop μ-loop
-loop-again c = let v = c .before .before .before .before .before .before .before .before .before .before .before .before .before .before .before .before .before .before .before .before .before .loop .inv in
-    (c .before .before .before .before .before .before .before .before .before .before .before .before .step .ensures .0, omega (arith, c .before .before .before .before .before .before .before .before .before .before .before .line .given, v .1), omega (arith, c .before .before .before .before .before .before .before .before .before .buffer .given, v .2), omega (arith, c .before .before .before .before .before .before .before .flash .given, v .3), omega (arith, c .before .before .before .before .before .spare .given, v .4), omega (arith, c .before .before .before .disk .given, v .5), omega (arith, c .before .out .given, v .6))
+loop-again c =
+    let loop = c .before .before .before .before .before .before .before .before .before .before .before .before .before .before .before .before .before .before .before .before .before .loop in
+    let step = c .before .before .before .before .before .before .before .before .before .before .before .before .step in
+    let line = c .before .before .before .before .before .before .before .before .before .before .before .line in
+    let buffer = c .before .before .before .before .before .before .before .before .before .buffer in
+    let v = loop .inv in
+    (step .ensures .0, omega (arith, line .given, v .1), omega (arith, buffer .given, v .2), omega (arith, c .before .before .before .before .before .before .before .flash .given, v .3), omega (arith, c .before .before .before .before .before .spare .given, v .4), omega (arith, c .before .before .before .disk .given, v .5), omega (arith, c .before .out .given, v .6))
 
 write-out-requires : tie.Need-write-out-requires Inv-loop μ-loop
 write-out-requires c κs = c .before .before .before .loop .inv .0 .printed-room

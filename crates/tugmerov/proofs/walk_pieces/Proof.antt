@@ -22,7 +22,9 @@ read-piece-requires : tie.Need-read-piece-requires Inv-loop μ-loop
 read-piece-requires c κs = search needs
 
 closed-requires : tie.Need-closed-requires Inv-loop μ-loop
-closed-requires c κs = (omega (arith, c .before .before .piece .given, c .before .before .before .before .before .before .before .loop .inv .1, c .before .before .before .before .before .before .before .before .before .before .before .before .before .before .before .pre .1), c .before .before .before .read-piece .ensures .0)
+closed-requires c κs =
+    let start = c .before .before .before .before .before .before .before .before .before .before .before .before .before .before .before in
+    (omega (arith, c .before .before .piece .given, c .before .before .before .before .before .before .before .loop .inv .1, start .pre .1), c .before .before .before .read-piece .ensures .0)
 
 slice-reshare-prefix-walk-piece : tie.Need-slice-reshare-prefix-walk-piece Inv-loop μ-loop
 slice-reshare-prefix-walk-piece c = c .before .before .closed .ensures
@@ -31,17 +33,31 @@ slice-aggregate-walk-piece : tie.Need-slice-aggregate-walk-piece Inv-loop μ-loo
 slice-aggregate-walk-piece c = simp length-take (omega (arith, c .before .before .before .closed .ensures))
 
 walk-piece-requires : tie.Need-walk-piece-requires Inv-loop μ-loop
-walk-piece-requires c κs = (c .before .before .before .before .before .before .before .before .before .before .before .before .before .before .before .before .before .loop .inv .0, omega (arith, c .before .before .before .before .before .before .before .before .before .before .before .before .before .before .before .before .before .loop .inv .7, c .before .before .before .before .before .before .before .before .before .before .before .before .before .before .before .before .before .before .before .before .before .before .before .before .before .pre .0 .1))
+walk-piece-requires c κs =
+    let loop = c .before .before .before .before .before .before .before .before .before .before .before .before .before .before .before .before .before .loop in
+    let start = c .before .before .before .before .before .before .before .before .before .before .before .before .before .before .before .before .before .before .before .before .before .before .before .before .before in
+    (loop .inv .0, omega (arith, loop .inv .7, start .pre .0 .1))
 
 sub-turns : tie.Need-sub-turns Inv-loop μ-loop
-sub-turns c = omega (arith, c .before .before .before .before .before .before .before .before .before .before .before .before .before .before .before .before .before .before .before .before .before .before .before .before .before .before .before .before .before .loop-test .taken)
+sub-turns c =
+    let loop-test = c .before .before .before .before .before .before .before .before .before .before .before .before .before .before .before .before .before .before .before .before .before .before .before .before .before .before .before .before .before .loop-test in
+    omega (arith, loop-test .taken)
 
 loop-less : tie.Need-loop-less Inv-loop μ-loop
-loop-less c = omega (arith, c .before .before .before .before .before .before .before .before .before .before .before .before .before .before .before .before .before .before .before .before .before .before .before .before .before .before .before .before .before .loop-test .taken)
+loop-less c =
+    let loop-test = c .before .before .before .before .before .before .before .before .before .before .before .before .before .before .before .before .before .before .before .before .before .before .before .before .before .before .before .before .before .loop-test in
+    omega (arith, loop-test .taken)
 
 loop-again : tie.Need-loop-again Inv-loop μ-loop
-loop-again c = let v = c .before .before .before .before .before .before .before .before .before .before .before .before .before .before .before .before .before .before .before .before .before .before .before .before .before .before .before .before .before .before .loop .inv in
-    (c .before .before .before .before .before .before .before .before .before .before .before .before .walk-piece .ensures, omega (arith, c .before .before .before .before .before .before .before .before .before .before .before .before .before .before .before .before .before .before .before .before .before .piece2 .given, c .before .before .before .before .before .before .before .before .before .before .before .before .before .before .before .before .before .before .before .before .before .before .before .before .before .piece .given, v .1), omega (arith, c .before .before .before .before .before .before .before .before .before .before .before .line .given, v .2), omega (arith, c .before .before .before .before .before .before .before .before .before .buffer .given, v .3), omega (arith, c .before .before .before .before .before .before .before .flash .given, v .4), omega (arith, c .before .before .before .before .before .spare .given, v .5), omega (arith, c .before .before .before .disk .given, v .6), omega (arith, c .before .out .given, v .7))
+loop-again c =
+    let loop = c .before .before .before .before .before .before .before .before .before .before .before .before .before .before .before .before .before .before .before .before .before .before .before .before .before .before .before .before .before .before .loop in
+    let walk-piece = c .before .before .before .before .before .before .before .before .before .before .before .before .walk-piece in
+    let piece2 = c .before .before .before .before .before .before .before .before .before .before .before .before .before .before .before .before .before .before .before .before .before .piece2 in
+    let piece = c .before .before .before .before .before .before .before .before .before .before .before .before .before .before .before .before .before .before .before .before .before .before .before .before .before .piece in
+    let line = c .before .before .before .before .before .before .before .before .before .before .before .line in
+    let buffer = c .before .before .before .before .before .before .before .before .before .buffer in
+    let v = loop .inv in
+    (walk-piece .ensures, omega (arith, piece2 .given, piece .given, v .1), omega (arith, line .given, v .2), omega (arith, buffer .given, v .3), omega (arith, c .before .before .before .before .before .before .before .flash .given, v .4), omega (arith, c .before .before .before .before .before .spare .given, v .5), omega (arith, c .before .before .before .disk .given, v .6), omega (arith, c .before .out .given, v .7))
 
 same-length : tie.Need-same-length Inv-loop μ-loop
 same-length c = c .before .before .loop .inv .1

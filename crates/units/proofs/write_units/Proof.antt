@@ -23,7 +23,8 @@ loop-holds c = (omega arith, c .before .before .before .before .pre .0, refl)
 
 write-unit-requires : tie.Need-write-unit-requires Inv-loop μ-loop
 write-unit-requires c κs =
-    let asked = c .before .before .before .before .before .before .before .before .before .pre .1 in
+    let start = c .before .before .before .before .before .before .before .before .before in
+    let asked = start .pre .1 in
     (c .before .before .before .before .loop .inv .1, (asked .0, asked .1, c .before .before .before .loop-test .taken, asked .2))
 
 add-u : tie.Need-add-u Inv-loop μ-loop
@@ -34,8 +35,9 @@ loop-less c = omega arith
 
 loop-again : tie.Need-loop-again Inv-loop μ-loop
 loop-again c =
+    let loop = c .before .before .before .before .before .before .before .before .before .before .before .loop in
     let unit = c .before .before .before .before .before .before .write-unit .ensures in
-    (omega arith, unit .1, rw (unit .0, c .before .before .before .before .before .before .before .before .before .before .before .loop .inv .2, run-more))
+    (omega arith, unit .1, rw (unit .0, loop .inv .2, run-more))
 
 same-length : tie.Need-same-length Inv-loop μ-loop
 same-length c = omega (arith, c .before .loop .inv .1 .flash-length, c .before .before .before .before .before .before .pre .0 .flash-length)

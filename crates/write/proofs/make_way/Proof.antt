@@ -39,9 +39,12 @@ same-length-3 c = search needs
 
 returns : tie.Need-returns
 unfolding makeWay evictAny after
-returns c = let a = c .before .before .before .before .before .before .before .before .before .before .before .before .before .before .before .before .before .before .args in
+returns c =
+    let outgoing = c .before .before .before .before .before .before .before .before .before .before .before .before .before .outgoing in
+    let out = c .before .before .before .before .before .before .before .before .before .before .before .out in
+    let a = c .before .before .before .before .before .before .before .before .before .before .before .before .before .before .before .before .before .before .args in
     let d = device (a .flash .now) (a .spare .now) (a .disk .now) in
-    let says = sym (same-outgoing (a .s .sizes) d (a .b) (placesOf (a .s))) ∙ sym (c .before .before .before .before .before .before .before .before .before .before .before .before .before .outgoing .ensures) ∙ c .before .before .before .before .before .before .before .before .before .before .before .out .given .1 in
+    let says = sym (same-outgoing (a .s .sizes) d (a .b) (placesOf (a .s))) ∙ sym (outgoing .ensures) ∙ out .given .1 in
     (rw says (c .before .before .before .before .before .before .evict .ensures .0), c .before .before .before .before .before .before .evict .ensures .1)
 
 same-length-4 : tie.Need-same-length-4

@@ -16,8 +16,11 @@ write-log-requires c κs = search needs
 
 finish-requires : tie.Need-finish-requires
 unfolding sizesOf
-finish-requires c κs = let a = c .before .before .before .before .before .before .before .before .before .before .before .before .before .before .before .before .before .args in
-    step-left (a .allowance) (writeCall (a .b) (a .offset) (a .bytes .now)) (a .s) (placesOf (a .s)) (device (a .flash .now) (a .spare .now) (a .disk .now)) (write (a .s .sizes) (a .b) (a .offset) (a .bytes .now)) (rw (c .before .before .before .before .before .before .before .before .before .before .before .before .whole .ensures) at (c .before .before .before .before .before .before .before .before .write-log .ensures .0))
+finish-requires c κs =
+    let whole = c .before .before .before .before .before .before .before .before .before .before .before .before .whole in
+    let write-log = c .before .before .before .before .before .before .before .before .write-log in
+    let a = c .before .before .before .before .before .before .before .before .before .before .before .before .before .before .before .before .before .args in
+    step-left (a .allowance) (writeCall (a .b) (a .offset) (a .bytes .now)) (a .s) (placesOf (a .s)) (device (a .flash .now) (a .spare .now) (a .disk .now)) (write (a .s .sizes) (a .b) (a .offset) (a .bytes .now)) (rw (whole .ensures) at (write-log .ensures .0))
 
 same-length : tie.Need-same-length
 same-length c = search needs
@@ -30,9 +33,12 @@ same-length-3 c = search needs
 
 returns : tie.Need-returns
 unfolding sizesOf doneAnswer lentBuffer readBuffer
-returns c = let a = c .before .before .before .before .before .before .before .before .before .before .before .before .before .before .before .before .before .before .args in
+returns c =
+    let whole = c .before .before .before .before .before .before .before .before .before .before .before .before .before .whole in
+    let write-log = c .before .before .before .before .before .before .before .before .before .write-log in
+    let a = c .before .before .before .before .before .before .before .before .before .before .before .before .before .before .before .before .before .before .args in
     rw (c .finish .ensures)
-    (step-handed (a .allowance) (writeCall (a .b) (a .offset) (a .bytes .now)) (a .s) (placesOf (a .s)) (device (a .flash .now) (a .spare .now) (a .disk .now)) (write (a .s .sizes) (a .b) (a .offset) (a .bytes .now)) (rw (c .before .before .before .before .before .before .before .before .before .before .before .before .before .whole .ensures) at (c .before .before .before .before .before .before .before .before .before .write-log .ensures .0)) refl refl)
+    (step-handed (a .allowance) (writeCall (a .b) (a .offset) (a .bytes .now)) (a .s) (placesOf (a .s)) (device (a .flash .now) (a .spare .now) (a .disk .now)) (write (a .s .sizes) (a .b) (a .offset) (a .bytes .now)) (rw (whole .ensures) at (write-log .ensures .0)) refl refl)
 
 pub write-bytes-spec : {M : Type 1} → statement M
 write-bytes-spec =

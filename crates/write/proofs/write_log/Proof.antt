@@ -55,20 +55,27 @@ same-length-3 c = search needs
 
 returns : tie.Need-returns
 unfolding write after
-returns c = let a = c .before .before .before .before .before .before .before .before .before .before .before .before .before .before .before .before .before .args in
+returns c =
+    let fits2 = c .before .before .before .before .before .before .before .before .before .before .before .fits2 in
+    let if1 = c .before .before .before .before .before .before .before .before .before .before .if1 in
+    let a = c .before .before .before .before .before .before .before .before .before .before .before .before .before .before .before .before .before .args in
     let z = a .s .sizes in
     let d = device (a .flash .now) (a .spare .now) (a .disk .now) in
     let pages = pagesFor z (length (a .bytes .now)) in
-    let fitting : fits z d (a .b) pages (placesOf (a .s)) ≡ true = sym (same-fits z d (a .b) pages (placesOf (a .s))) ∙ sym (c .before .before .before .before .before .before .before .before .before .before .before .fits2 .ensures) ∙ c .before .before .before .before .before .before .before .before .before .before .if1 .taken in
+    let fitting : fits z d (a .b) pages (placesOf (a .s)) ≡ true = sym (same-fits z d (a .b) pages (placesOf (a .s))) ∙ sym (fits2 .ensures) ∙ if1 .taken in
     (rw fitting (c .before .before .before .before .before .before .append-log .ensures .0), c .before .before .before .before .before .before .append-log .ensures .1)
 
 make-way-requires : tie.Need-make-way-requires
-make-way-requires c κs = (c .before .before .before .before .before .before .before .before .before .before .pre .0, c .before .before .before .before .before .before .before .before .before .before .pre .1 .yields)
+make-way-requires c κs =
+    let start = c .before .before .before .before .before .before .before .before .before .before in
+    (start .pre .0, start .pre .1 .yields)
 
 start-log-requires : tie.Need-start-log-requires
-start-log-requires c κs = let start = c .before .before .before .before .before .before .before .before .before .before .before .before .before .before .before .before .before .before .before .before .before .before in
+start-log-requires c κs =
+    let make-way = c .before .before .before .before .before .before .before .before .before .before .before .make-way in
+    let start = c .before .before .before .before .before .before .before .before .before .before .before .before .before .before .before .before .before .before .before .before .before .before in
     let a = start .args in
-    let made = c .before .before .before .before .before .before .before .before .before .before .before .make-way .ensures in
+    let made = make-way .ensures in
     let way = way-left (placesOf (a .s)) (a .spare .now) (start .pre .1 .yields) (a .b) _ (made .0) in
     (rw (way .sizes) (made .1), write-starts (start .pre .1) way)
 
@@ -82,13 +89,17 @@ same-length-6 : tie.Need-same-length-6
 same-length-6 c = search needs
 
 returns-2 : tie.Need-returns-2
-returns-2 c = let start = c .before .before .before .before .before .before .before .before .before .before .before .before .before .before .before .before .before .before .before .before .before .before .before .before .before .before .before .before .before in
+returns-2 c =
+    let fits2 = c .before .before .before .before .before .before .before .before .before .before .before .before .before .before .before .before .before .before .before .before .before .before .before .fits2 in
+    let if1 = c .before .before .before .before .before .before .before .before .before .before .before .before .before .before .before .before .before .before .before .before .before .before .if1 in
+    let make-way = c .before .before .before .before .before .before .before .before .before .before .before .before .before .before .before .before .before .before .make-way in
+    let start = c .before .before .before .before .before .before .before .before .before .before .before .before .before .before .before .before .before .before .before .before .before .before .before .before .before .before .before .before .before in
     let a = start .args in
     let z = a .s .sizes in
     let d = device (a .flash .now) (a .spare .now) (a .disk .now) in
     let pages = pagesFor z (length (a .bytes .now)) in
-    let full : fits z d (a .b) pages (placesOf (a .s)) ≡ false = sym (same-fits z d (a .b) pages (placesOf (a .s))) ∙ sym (c .before .before .before .before .before .before .before .before .before .before .before .before .before .before .before .before .before .before .before .before .before .before .before .fits2 .ensures) ∙ c .before .before .before .before .before .before .before .before .before .before .before .before .before .before .before .before .before .before .before .before .before .before .if1 .left in
-    let made = c .before .before .before .before .before .before .before .before .before .before .before .before .before .before .before .before .before .before .make-way .ensures in
+    let full : fits z d (a .b) pages (placesOf (a .s)) ≡ false = sym (same-fits z d (a .b) pages (placesOf (a .s))) ∙ sym (fits2 .ensures) ∙ if1 .left in
+    let made = make-way .ensures in
     let started = c .before .before .before .before .before .before .start-log .ensures in (
       written-by (placesOf (a .s)) (a .spare .now) (start .pre .1 .yields) (a .b) _ (made .0) (a .offset) (a .bytes .now) full (started .0),
       rw (way-left (placesOf (a .s)) (a .spare .now) (start .pre .1 .yields) (a .b) _ (made .0) .sizes) at (started .1),
