@@ -1,6 +1,9 @@
 -- `tugmerov::walk_input` meets its contract.
+use Prim.Native.Nat.{ℕ}
+use lib.ListN.{length-replicate}
 use native.Mathlib.Omega.{arith}
 use borrow.Author.Needs.{needs}
+use Rattle.tugmerov.proofs.Going.{reached-output, whole-output}
 use Rattle.tugmerov.proofs.walk_input.Statement.{statement}
 use Rattle.tugmerov.proofs.walk_input.Tie as tie
 
@@ -8,9 +11,7 @@ start-requires : tie.Need-start-requires
 start-requires c κs = search needs
 
 walk-pieces-requires : tie.Need-walk-pieces-requires
-walk-pieces-requires c κs = let p = c .before .before .before .before .before .before .before .before .before .before .before .before .before .before .before .pre in
-    let s = c .before .before .before .before .before .before .before .start .ensures .1 in
-    ((record { ready = s .0; arrays = p .1; line-room = p .0 .0; held-room = omega (arith, s .1); buffer-room = p .0 .1; printed-room = omega (arith, s .2) }, p .0 .2), p .0 .3)
+walk-pieces-requires c κs = let p = c .before .before .before .before .before .before .before .before .before .before .before .before .before .before .before .pre in let s = c .before .before .before .before .before .before .before .start .ensures .1 in ((record { ready = s .0; arrays = record { flash-length = rw (p .1 .0) (length-replicate {A = ℕ} 32768 0); spare-length = rw (p .1 .1) (length-replicate {A = ℕ} 32768 0); disk-length = rw (p .1 .2) (length-replicate {A = ℕ} 16384 0) }; line-room = p .0 .1; held-room = omega (arith, s .1); buffer-room = p .0 .2; printed-room = omega (arith, s .2) }, s .2), (p .0 .0, p .0 .3))
 
 same-length : tie.Need-same-length
 same-length c = search needs
@@ -34,7 +35,7 @@ same-length-7 : tie.Need-same-length-7
 same-length-7 c = search needs
 
 returns : tie.Need-returns
-returns c = search needs
+returns c = let start = c .before .before .before .before .before .before .before .before .before .before .before .before .before .before .before .before .before .before .before .before .before .before .before .before .before .before .before .before .before .before in let e = c .before .before .before .before .before .before .before .before .before .before .before .before .before .before .walk-pieces .ensures in (λ h none. reached-output _ _ (λ input. rw (start .pre .1 .0, start .pre .1 .1, start .pre .1 .2) (c .before .before .before .before .before .before .before .before .before .before .before .before .before .before .before .before .before .before .before .before .before .before .start .ensures .0 _ _ input)) (e .0 h none), λ h none. whole-output _ _ (λ input. rw (start .pre .1 .0, start .pre .1 .1, start .pre .1 .2) (c .before .before .before .before .before .before .before .before .before .before .before .before .before .before .before .before .before .before .before .before .before .before .start .ensures .0 _ _ input)) (e .1 h none))
 
 pub walk-input-spec : {M : Type 1} → statement M
 walk-input-spec =
