@@ -2,7 +2,7 @@
 use Prim.Native.Nat.{ℕ}
 use mathlib.Core.Path.{_≡_}
 use mathlib.Core.List.{List, [], _∷_, _++_}
-use lib.ListN.{length}
+use lib.ListN.{length, take}
 use Rattle.model.specs.Driving.{output}
 
 -- where the program stands: the whole output from there on, for each rest of the input
@@ -18,6 +18,12 @@ pub record Walked (from : Place) (bytes : List ℕ) (written : ℕ) (to : Place)
   pub text : List ℕ
   pub counted : length text ≡ written
   pub way : Way from bytes text to
+
+-- nothing behind a hole: whatever follows the bytes, the characters written are the first of those that were to come
+pub record Begun (from : Place) (bytes : List ℕ) (written : ℕ) : Type 0 where
+  pub text : List ℕ
+  pub counted : length text ≡ written
+  pub first : (rest : List ℕ) → take written (from (bytes ++ rest)) ≡ text
 
 -- the end of the input: all that was to come is written, so many characters, and nothing is to come
 pub record Closed (from : Place) (written : ℕ) (to : Place) : Type 0 where

@@ -4,10 +4,11 @@ use mathlib.Core.List.{List, [], _++_, append-assoc}
 use Prim.Native.Nat.{ℕ, _+_, _-_, _*_, _≤_, _<_}
 use native.Mathlib.Omega.{arith}
 use lib.ListN.{length, take, drop, length-append, drop-of-length-le}
-use lib.Seq.{length-take-le}
+use lib.Seq.{length-take-le, take-take}
 use Rattle.input.specs.declared.Walk.{Walk}
 use Rattle.input.specs.Ahead.{ahead, Sound}
-use Rattle.input.specs.Ways.{Place, Walked}
+use Rattle.input.specs.Ways.{Place, Begun, Walked}
+use Rattle.input.proofs.Behind.{take-behind}
 
 -- the walk after a write of so many of the printed characters
 abbrev pub wrote : Walk → ℕ → Walk
@@ -19,12 +20,20 @@ flushed : (w : Walk) (line flash spare disk out rest : List ℕ) (put : ℕ) →
 unfolding ahead
 flushed w line flash spare disk out rest put e = rw e
 
+-- the first characters of a text and all that is to come behind it
+first-of : (text : List ℕ) (written : ℕ) (w : Walk) (line flash spare disk out rest : List ℕ) (put : ℕ) → length text ≡ written → put ≤ w .printed → w .printed ≤ length out
+    → take (written + put) (text ++ ahead w line flash spare disk out rest) ≡ text ++ take put out
+unfolding ahead
+first-of text written w line flash spare disk out rest put e h k =
+    rw (← e) (take-behind text (take (w .printed) out) _ put (omega (arith, length-take-le (w .printed) out k)) ∙ ap (λ (t : List ℕ). text ++ t) (take-take put (w .printed) out h))
+
 module _ (piece : List ℕ) (from : Place) where
-  -- the bytes of the piece up to here are walked, and unless the output has failed so many characters are written
+  -- so many characters are written and, unless the output has failed, the bytes of the piece up to here are walked
   pub record Along (w : Walk) (line buffer flash spare disk out : List ℕ) (written : ℕ) : Type 0 where
     pub sound : Sound w line buffer flash spare disk out
     pub inside : w .passed ≤ length piece
     pub few : written ≤ w .passed * 131072
+    pub begun : Begun from piece written
     pub walked : w .printed ≡ 0 → Walked from piece written (λ rest. ahead w line flash spare disk out (drop (w .passed) piece ++ rest))
 
   module _ (w : Walk) (line buffer flash spare disk out : List ℕ) (written : ℕ) (a : Along w line buffer flash spare disk out written) where
@@ -43,6 +52,13 @@ module _ (piece : List ℕ) (from : Place) where
       };
       inside = inside;
       few = omega (arith, a .few, s .printed-room);
+      begun = let before = a .walked none in record {
+        text = before .text ++ take put out';
+        counted = omega (arith, length-append (before .text) (take put out'), length-take-le put out' (omega (arith, s .printed-room)), before .counted);
+        first = λ rest.
+            ap (take (written + put)) (sym (ap (λ (t : List ℕ). before .text ++ t) (alike rest) ∙ before .way rest))
+            ∙ first-of (before .text) written v line' flash' spare' disk' out' (drop (v .passed) piece ++ rest) put (before .counted) fits (s .printed-room);
+      };
       walked = λ e. let before = a .walked none in record {
         text = before .text ++ take (v .printed) out';
         counted = omega (arith, length-append (before .text) (take (v .printed) out'), length-take-le (v .printed) out' (s .printed-room), before .counted, e);
@@ -61,11 +77,11 @@ module _ (piece : List ℕ) (from : Place) where
     }
 
 -- nothing is walked of the piece
-abbrev pub begun : Walk → Walk
-begun w = record { recorder = w .recorder; held = w .held; passed = 0; printed = w .printed }
+abbrev pub afresh : Walk → Walk
+afresh w = record { recorder = w .recorder; held = w .held; passed = 0; printed = w .printed }
 
 pub set-out : (piece : List ℕ) (w : Walk) (line buffer flash spare disk out : List ℕ) → Sound w line buffer flash spare disk out
-    → Along piece (ahead (begun w) line flash spare disk out) (begun w) line buffer flash spare disk out 0
+    → Along piece (ahead (afresh w) line flash spare disk out) (afresh w) line buffer flash spare disk out 0
 set-out piece w line buffer flash spare disk out s = record {
   sound = record {
     ready = s .ready;
@@ -77,5 +93,6 @@ set-out piece w line buffer flash spare disk out s = record {
   };
   inside = omega arith;
   few = omega arith;
+  begun = record { text = []; counted = refl; first = λ rest. refl };
   walked = λ none. record { text = []; counted = refl; way = λ rest. refl };
 }

@@ -7,7 +7,7 @@ ghost use lib.ListN.{length, take, replicate};
 ghost use Rattle.lists.specs.Lists.{if_then_else_};
 ghost use Rattle.model.specs.Driving.{output};
 ghost use Rattle.input.specs.Ahead.{ahead, closer, Sound};
-ghost use Rattle.input.specs.Ways.{Walked, Closed};
+ghost use Rattle.input.specs.Ways.{Begun, Walked, Closed};
 ghost use Rattle.tugmerov.specs.Whole.{Reached, Ended, Whole};
 
 // What a read gave: so many bytes or the end of the input; neither where it failed.
@@ -16,7 +16,7 @@ struct Got {
     ended: bool,
 }
 
-// How far the program has come, and how many characters it wrote on the way.
+// How far the program has come, and how many characters `write` took on the way: by their number the contracts say which they were.
 struct Told {
     walk: Walk,
     written: usize,
@@ -107,6 +107,7 @@ fn walk_piece(
     requires { ⌜ Sound w (now line) (now buffer) (now flash) (now spare) (now disk) (now out) × (w .printed ≡ 0) ⌝ }
     requires { ⌜ (length (now piece) ≤ 65536) × (32775 ≤ length (now out)) × (length (now out) ≤ 131072) ⌝ }
     ensures { λ r. ⌜ Sound (r .walk) (now (line .exit)) (now (buffer .exit)) (now (flash .exit)) (now (spare .exit)) (now (disk .exit)) (now (out .exit)) ⌝ }
+    ensures { λ r. ⌜ Begun (ahead w (now (line .entry)) (now (flash .entry)) (now (spare .entry)) (now (disk .entry)) (now (out .entry))) (now (piece .entry)) (r .written) ⌝ }
     ensures { λ r. ⌜ (r .walk .printed ≡ 0 → Walked (ahead w (now (line .entry)) (now (flash .entry)) (now (spare .entry)) (now (disk .entry)) (now (out .entry))) (now (piece .entry)) (r .written) (ahead (r .walk) (now (line .exit)) (now (flash .exit)) (now (spare .exit)) (now (disk .exit)) (now (out .exit)))) ⌝ }
 {
     let mut walk = w;
@@ -148,6 +149,7 @@ fn turn(
     requires { ⌜ Sound w (now line) (now buffer) (now flash) (now spare) (now disk) (now out) × (w .printed ≡ 0) ⌝ }
     requires { ⌜ (length (now piece) ≡ 65536) × (got .count ≤ 65536) × (length (now out) ≡ 131072) ⌝ }
     ensures { λ r. ⌜ Sound (r .walk) (now (line .exit)) (now (buffer .exit)) (now (flash .exit)) (now (spare .exit)) (now (disk .exit)) (now (out .exit)) ⌝ }
+    ensures { λ r. ⌜ Begun (ahead w (now (line .entry)) (now (flash .entry)) (now (spare .entry)) (now (disk .entry)) (now (out .entry))) (if got .ended then closer (w .held) else take (got .count) (now (piece .entry))) (r .written) ⌝ }
     ensures { λ r. ⌜ (got .ended ≡ false → r .walk .printed ≡ 0 → Walked (ahead w (now (line .entry)) (now (flash .entry)) (now (spare .entry)) (now (disk .entry)) (now (out .entry))) (take (got .count) (now (piece .entry))) (r .written) (ahead (r .walk) (now (line .exit)) (now (flash .exit)) (now (spare .exit)) (now (disk .exit)) (now (out .exit)))) ⌝ }
     ensures { λ r. ⌜ (got .ended ≡ true → r .walk .printed ≡ 0 → Closed (ahead w (now (line .entry)) (now (flash .entry)) (now (spare .entry)) (now (disk .entry)) (now (out .entry))) (r .written) (ahead (r .walk) (now (line .exit)) (now (flash .exit)) (now (spare .exit)) (now (disk .exit)) (now (out .exit)))) ⌝ }
 {

@@ -42,7 +42,10 @@ same-length-7 : tie.Need-same-length-7
 same-length-7 c = search needs
 
 returns : tie.Need-returns
-returns c = let told = c .before .before .before .before .before .before .before .before .before .before .before .before .walk-piece in let bytes = c .before .before .before .before .before .before .before .before .before .before .before .before .before .before .before .before .before .before .before .before .before .before .closed .ensures .0 in let start = c .before .before .before .before .before .before .before .before .before .before .before .before .before .before .before .before .before .before .before .before .before .before .before .before .before .before .before .before .before .before .before in (told .ensures .0, (λ more none. rw (bytes ∙ if-false _ _ more) at (told .ensures .1 none), λ ended none. closed-up (start .args .w) _ _ _ _ _ (start .pre .0 .0 .line-room) (told .result .walk) _ _ _ _ _ _ none (rw (bytes ∙ if-true _ _ ended) at (told .ensures .1 none))))
+returns c = let told = c .before .before .before .before .before .before .before .before .before .before .before .before .walk-piece in
+    let bytes = c .before .before .before .before .before .before .before .before .before .before .before .before .before .before .before .before .before .before .before .before .before .before .closed .ensures .0 in
+    let start = c .before .before .before .before .before .before .before .before .before .before .before .before .before .before .before .before .before .before .before .before .before .before .before .before .before .before .before .before .before .before .before in
+    (told .ensures .0, (rw bytes at (told .ensures .1 .0), (λ more none. rw (bytes ∙ if-false _ _ more) at (told .ensures .1 .1 none), λ ended none. closed-up (start .args .w) _ _ _ _ _ (start .pre .0 .0 .line-room) (told .result .walk) _ _ _ _ _ _ none (rw (bytes ∙ if-true _ _ ended) at (told .ensures .1 .1 none)))))
 
 pub turn-spec : {M : Type 1} → statement M
 turn-spec =

@@ -45,7 +45,9 @@ loop-less : tie.Need-loop-less Inv-loop μ-loop
 loop-less c = omega (arith, c .before .before .before .before .before .before .before .before .before .before .before .before .before .before .advance .ensures .1 .1, c .before .before .before .before .before .before .before .before .before .before .before .before .before .before .advance .ensures .1 .2, c .before .before .before .before .before .before .before .before .before .before .before .before .before .before .before .before .before .before .before .before .before .before .before .if1 .taken)
 
 loop-again : tie.Need-loop-again Inv-loop μ-loop
-loop-again c = let l = c .before .before .before .before .before .before .before .before .before .before .before .before .before .before .before .before .before .before .before .before .before .before .before .before .before .loop in let a = c .before .before .before .before .before .before .before .before .before .before .before .before .before .before .advance in (along _ _ (l .walk) _ _ _ _ _ _ (l .written) (l .inv .0) (eqb-true (l .walk .printed) 0 (c .before .before .before .before .before .before .before .before .before .before .before .before .before .before .before .before .before .before .before .before .before .if2 .taken)) (a .result) _ _ _ _ _ _ (a .ensures .1 .0) (a .ensures .1 .1) (a .ensures .1 .2) (a .ensures .0) (omega (arith, c .before .before .before .out .given, l .inv .6, c .before .before .before .before .before .before .before .before .before .before .before .before .before .before .before .before .before .before .before .before .before .before .before .before .before .before .before .before .before .before .before .before .before .pre .1 .2)) (c .write-out .result) (omega (arith, simp length-take at (c .write-out .ensures))), omega (arith, c .before .before .before .before .before .before .before .before .before .before .before .before .before .line .given, l .inv .1), omega (arith, c .before .before .before .before .before .before .before .before .before .before .before .buffer .given, l .inv .2), omega (arith, c .before .before .before .before .before .before .before .before .before .flash .given, l .inv .3), omega (arith, c .before .before .before .before .before .before .before .spare .given, l .inv .4), omega (arith, c .before .before .before .before .before .disk .given, l .inv .5), omega (arith, c .before .before .before .out .given, l .inv .6))
+loop-again c = let l = c .before .before .before .before .before .before .before .before .before .before .before .before .before .before .before .before .before .before .before .before .before .before .before .before .before .loop in
+    let a = c .before .before .before .before .before .before .before .before .before .before .before .before .before .before .advance in
+    (along _ _ (l .walk) _ _ _ _ _ _ (l .written) (l .inv .0) (eqb-true (l .walk .printed) 0 (c .before .before .before .before .before .before .before .before .before .before .before .before .before .before .before .before .before .before .before .before .before .if2 .taken)) (a .result) _ _ _ _ _ _ (a .ensures .1 .0) (a .ensures .1 .1) (a .ensures .1 .2) (a .ensures .0) (omega (arith, c .before .before .before .out .given, l .inv .6, c .before .before .before .before .before .before .before .before .before .before .before .before .before .before .before .before .before .before .before .before .before .before .before .before .before .before .before .before .before .before .before .before .before .pre .1 .2)) (c .write-out .result) (omega (arith, simp length-take at (c .write-out .ensures))), omega (arith, c .before .before .before .before .before .before .before .before .before .before .before .before .before .line .given, l .inv .1), omega (arith, c .before .before .before .before .before .before .before .before .before .before .before .buffer .given, l .inv .2), omega (arith, c .before .before .before .before .before .before .before .before .before .flash .given, l .inv .3), omega (arith, c .before .before .before .before .before .before .before .spare .given, l .inv .4), omega (arith, c .before .before .before .before .before .disk .given, l .inv .5), omega (arith, c .before .before .before .out .given, l .inv .6))
 
 same-length : tie.Need-same-length Inv-loop μ-loop
 same-length c = c .before .before .before .before .loop .inv .1
@@ -67,7 +69,7 @@ same-length-6 c = c .before .before .before .before .loop .inv .6
 
 returns : tie.Need-returns Inv-loop μ-loop
 unfolding ahead
-returns c = (c .before .before .before .before .loop .inv .0 .sound, λ e. absurd (true≢false (sym (eq-eqb (c .before .before .before .before .loop .walk .printed) 0 e) ∙ c .if2 .left)))
+returns c = (c .before .before .before .before .loop .inv .0 .sound, (c .before .before .before .before .loop .inv .0 .begun, λ e. absurd (true≢false (sym (eq-eqb (c .before .before .before .before .loop .walk .printed) 0 e) ∙ c .if2 .left))))
 
 same-length-7 : tie.Need-same-length-7 Inv-loop μ-loop
 same-length-7 c = c .before .before .loop .inv .1
@@ -89,7 +91,7 @@ same-length-12 c = c .before .before .loop .inv .6
 
 returns-2 : tie.Need-returns-2 Inv-loop μ-loop
 unfolding ahead
-returns-2 c = let l = c .before .before .loop in (l .inv .0 .sound, all-along _ _ (l .walk) _ _ _ _ _ _ (l .written) (l .inv .0) (omega (arith, c .if1 .left)))
+returns-2 c = let l = c .before .before .loop in (l .inv .0 .sound, (l .inv .0 .begun, all-along _ _ (l .walk) _ _ _ _ _ _ (l .written) (l .inv .0) (omega (arith, c .if1 .left))))
 
 pub walk-piece-spec : {M : Type 1} → statement M
 walk-piece-spec =

@@ -3,7 +3,7 @@ use borrow.Author.Needs.{needs}
 use borrow.Author.Tests.{ltb-true}
 use mathlib.Core.Path.{_≡_, refl}
 use native.Mathlib.Omega.{arith}
-use lib.ListN.{length}
+use lib.ListN.{length, take}
 use Rattle.tugmerov.proofs.Going.{Going, set-out, going}
 use Rattle.input.specs.Ahead.{ahead}
 use Rattle.tugmerov.proofs.walk_pieces.Statement.{statement}
@@ -34,7 +34,11 @@ loop-less : tie.Need-loop-less Inv-loop μ-loop
 loop-less c = omega (arith, ltb-true 0 (c .before .before .before .before .before .before .before .before .before .before .before .before .before .before .before .before .before .before .before .before .before .before .before .before .before .before .before .before .before .before .before .loop .turns) (c .before .before .before .before .before .before .before .before .before .before .before .before .before .before .before .before .before .before .before .before .before .before .before .before .before .before .before .before .before .if1 .taken))
 
 loop-again : tie.Need-loop-again Inv-loop μ-loop
-loop-again c = let l = c .before .before .before .before .before .before .before .before .before .before .before .before .before .before .before .before .before .before .before .before .before .before .before .before .before .before .before .before .before .before .before .loop in let got = c .before .before .before .before .before .before .before .before .before .before .before .before .before .before .before .before .before .before .before .before .before .before .before .before .before .before .before .read-piece in let told = c .before .before .before .before .before .before .before .before .before .before .before .before .before .before .before .before .before .turn in let on = l .inv .0 .on (c .before .before .before .before .before .before .before .before .before .before .before .before .before .before .before .before .before .before .before .before .before .before .before .before .before .before .before .before .before .before .loop-test .taken) in (going _ (l .walk) _ _ _ _ _ (l .inv .0 .reached (on .0) (on .1)) (got .result .count) (got .result .ended) (got .ensures .1) (told .result .walk) _ _ _ _ _ _ (told .ensures .0) _ (told .result .written) (told .ensures .1 .0) (told .ensures .1 .1), omega (arith, c .before .before .before .before .before .before .before .before .before .before .before .before .before .before .before .before .piece2 .given, c .before .before .before .before .before .before .before .before .before .before .before .before .before .before .before .before .before .before .before .before .before .before .before .before .before .before .piece .given, l .inv .1), omega (arith, c .before .before .before .before .before .before .before .before .before .before .before .before .before .before .line .given, l .inv .2), omega (arith, c .before .before .before .before .before .before .before .before .before .before .before .before .buffer .given, l .inv .3), omega (arith, c .before .before .before .before .before .before .before .before .before .before .flash .given, l .inv .4), omega (arith, c .before .before .before .before .before .before .before .before .spare .given, l .inv .5), omega (arith, c .before .before .before .before .before .before .disk .given, l .inv .6), omega (arith, c .before .before .before .before .out .given, l .inv .7))
+loop-again c = let l = c .before .before .before .before .before .before .before .before .before .before .before .before .before .before .before .before .before .before .before .before .before .before .before .before .before .before .before .before .before .before .before .loop in
+    let got = c .before .before .before .before .before .before .before .before .before .before .before .before .before .before .before .before .before .before .before .before .before .before .before .before .before .before .before .read-piece in
+    let told = c .before .before .before .before .before .before .before .before .before .before .before .before .before .before .before .before .before .turn in
+    let on = l .inv .0 .on (c .before .before .before .before .before .before .before .before .before .before .before .before .before .before .before .before .before .before .before .before .before .before .before .before .before .before .before .before .before .before .loop-test .taken) in
+    (going _ (l .walk) _ _ _ _ _ (l .inv .0 .reached (on .0) (on .1)) (got .result .count) (got .result .ended) (got .ensures .1) (told .result .walk) _ _ _ _ _ _ (told .ensures .0) (take (got .result .count) (got .last .0)) (told .result .written) (told .ensures .1 .1 .0) (told .ensures .1 .1 .1), omega (arith, c .before .before .before .before .before .before .before .before .before .before .before .before .before .before .before .before .piece2 .given, c .before .before .before .before .before .before .before .before .before .before .before .before .before .before .before .before .before .before .before .before .before .before .before .before .before .before .piece .given, l .inv .1), omega (arith, c .before .before .before .before .before .before .before .before .before .before .before .before .before .before .line .given, l .inv .2), omega (arith, c .before .before .before .before .before .before .before .before .before .before .before .before .buffer .given, l .inv .3), omega (arith, c .before .before .before .before .before .before .before .before .before .before .flash .given, l .inv .4), omega (arith, c .before .before .before .before .before .before .before .before .spare .given, l .inv .5), omega (arith, c .before .before .before .before .before .before .disk .given, l .inv .6), omega (arith, c .before .before .before .before .out .given, l .inv .7))
 
 same-length : tie.Need-same-length Inv-loop μ-loop
 same-length c = c .before .before .loop .inv .1
