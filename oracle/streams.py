@@ -22,7 +22,7 @@ import compare
 MEGABYTE = 1 << 20
 PIECE = 65536  # what the program reads at most in one call
 FILE_LIMIT = 100000
-TIMEOUT = 60
+SECONDS = 120  # for all of it; a program that hangs must not hang the tests
 
 
 def long_input(seed):
@@ -69,10 +69,10 @@ class Streams:
 
     def answer(self, text):
         """The independent engine's output."""
-        return subprocess.run([self.oracle], input=text, stdout=subprocess.PIPE, check=True, timeout=TIMEOUT).stdout
+        return subprocess.run([self.oracle], input=text, stdout=subprocess.PIPE, check=True).stdout
 
     def start(self, **streams):
-        """The program, with the input in a file unless the streams say otherwise. A closed pipe is an error to it and no signal."""
+        """The program, its input in a file unless the streams say otherwise. A closed pipe is an error to it, no signal."""
         with tempfile.TemporaryFile() as file:
             file.write(self.text)
             file.seek(0)
@@ -81,20 +81,21 @@ class Streams:
 
     def run(self, **streams):
         """What the program wrote, and what it complained of."""
-        return self.start(**streams).communicate(timeout=TIMEOUT)
+        return self.start(**streams).communicate()
 
     def whole(self):
         self.check(f"a file of {len(self.text)} bytes", self.run() == (self.expected, b""))
         for size in (0, 1, PIECE - 1, PIECE, PIECE + 1):
             text = self.text[:size].rstrip(b"\n")
-            done = self.start(stdin=subprocess.PIPE).communicate(text, timeout=TIMEOUT)
+            done = self.start(stdin=subprocess.PIPE).communicate(text)
             self.check(f"{len(text)} bytes", done == (self.answer(text), b""))
 
     def slow_input(self, blocking):
         out, into = os.pipe()
         os.set_blocking(out, blocking)
         feed(into, self.text)
-        self.check(f"a slow writer, {'blocking' if blocking else 'not blocking'}", self.run(stdin=out) == (self.expected, b""))
+        self.check(f"a slow writer, {'blocking' if blocking else 'not blocking'}",
+                   self.run(stdin=out) == (self.expected, b""))
         os.close(out)
 
     def slow_output(self):
@@ -107,7 +108,7 @@ class Streams:
             text += part
             time.sleep(0.001)
         os.close(out)
-        complaint = program.communicate(timeout=TIMEOUT)[1]
+        complaint = program.communicate()[1]
         self.check("a slow reader, not blocking", (text, complaint) == (self.expected, b""))
 
     def failing_output(self):
@@ -124,13 +125,14 @@ class Streams:
         os.close(into)
         text = os.read(out, 1000)
         os.close(out)
-        complaint = program.communicate(timeout=TIMEOUT)[1]
+        complaint = program.communicate()[1]
         self.check("a reader that goes away", self.expected.startswith(text)
                    and complaint == b"tugmerov: standard output: Broken pipe\n")
 
     def failing_input(self):
         folder = os.open(".", os.O_RDONLY)
-        self.check("a folder as the input", self.run(stdin=folder) == (b"", b"tugmerov: standard input: Is a directory\n"))
+        self.check("a folder as the input", self.run(stdin=folder)
+                   == (b"", b"tugmerov: standard input: Is a directory\n"))
         os.close(folder)
         self.check("no input at all", self.run(preexec_fn=lambda: os.close(0))
                    == (b"", b"tugmerov: standard input: Bad file descriptor\n"))
@@ -150,6 +152,7 @@ def main():
     parser.add_argument("--program", required=True, metavar="BIN", help="the driving program")
     parser.add_argument("--seed", default="1", help="any text; the same seed gives the same input")
     options = parser.parse_args()
+    signal.alarm(SECONDS)
     streams = Streams(os.path.abspath(options.oracle), os.path.abspath(options.program), long_input(options.seed))
     streams.whole()
     streams.slow_input(blocking=True)
