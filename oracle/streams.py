@@ -72,7 +72,7 @@ class Streams:
         return subprocess.run([self.oracle], input=text, stdout=subprocess.PIPE, check=True).stdout
 
     def start(self, **streams):
-        """The program, its input in a file unless the streams say otherwise. A closed pipe is an error to it, no signal."""
+        """The program, its input in a file unless told otherwise. A closed pipe is an error to it, no signal."""
         with tempfile.TemporaryFile() as file:
             file.write(self.text)
             file.seek(0)
