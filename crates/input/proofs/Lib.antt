@@ -2,3 +2,5 @@ pub mod Cut
 pub mod Behind
 pub mod Onward
 pub mod Along
+pub mod End
+pub mod Whole

@@ -1,18 +1,16 @@
 -- Each step forward leaves the whole output as it was to be.
-use mathlib.Core.Path.{_≡_, refl, sym, ap, _∙_}
-use mathlib.Core.List.{List, [], _∷_, _++_, append-assoc, append-nil}
+use mathlib.Core.Path.{_≡_, sym, ap, _∙_}
+use mathlib.Core.List.{List, [], _∷_, _++_, append-assoc}
 use Prim.Native.Nat.{ℕ, _+_, _-_, _<_, _≤_}
-use native.Mathlib.Omega.{arith}
 use native.Mathlib.Numerals.{add-one}
-use lib.ListN.{length, take, drop, getD, length-take}
+use lib.ListN.{length, take, drop, getD}
 use lib.Seq.{drop-cons, length-take-le}
-use Rattle.lists.specs.Lists.{empty, part}
+use Rattle.lists.specs.Lists.{part}
 use Rattle.model.specs.Driving.{Recorder, Printed, onLine, linesFrom, onLines}
 use Rattle.drive.specs.declared.Printed.{Printed as PrintedStruct}
 use Rattle.drive.specs.Recorder.{recorderOf, printedOf}
 use Rattle.input.specs.declared.Walk.{Walk}
 use Rattle.lines.specs.Lines.{OneLine}
-use Rattle.input.specs.Ahead.{ahead}
 use Rattle.input.proofs.Cut.{cut-lines}
 use Rattle.input.proofs.Behind.{take-behind}
 
@@ -53,20 +51,3 @@ module _ (piece : List ℕ) (from end : ℕ) (one : OneLine piece from end) (bef
       ap (λ (s : Printed). s .text ++ onLines (s .recorder) (linesFrom [] (drop (end + 1) piece ++ rest))) e
       ∙ (append-assoc (p .text) (o .text) (onLines (o .recorder) (linesFrom [] (drop (end + 1) piece ++ rest)))
       ∙ (ap (λ (l : List ℕ). p .text ++ onLines (p .recorder) (linesFrom held l)) (sym ends) ∙ ap (λ (t : List ℕ). p .text ++ t) (line-held (p .recorder))))
-
--- with nothing held and nothing more to come all is printed
-pub all-printed : (w : Walk) (line flash spare disk out : List ℕ) → w .held ≡ 0 → ahead w line flash spare disk out [] ≡ take (w .printed) out
-unfolding ahead linesFrom onLines empty
-all-printed w line flash spare disk out e = rw (e, append-nil (take (w .printed) out))
-
-closed : (held : List ℕ) → (length held ≡ 0 → ⊥) → linesFrom held (10 ∷ []) ≡ linesFrom held []
-unfolding linesFrom empty
-closed [] h = absurd (h (omega arith))
-closed (x ∷ held) h = refl
-
--- the line feed that the last line may lack
-pub line-closed : (w : Walk) (line flash spare disk out : List ℕ) → (w .held ≡ 0 → ⊥) → length line ≡ 513 → ahead w line flash spare disk out (10 ∷ []) ≡ ahead w line flash spare disk out []
-unfolding ahead
-line-closed w line flash spare disk out h l =
-    ap (λ (m : List (List ℕ)). take (w .printed) out ++ onLines (recorderOf (w .recorder) flash spare disk) m)
-    (closed (take (w .held) line) (λ e. h (omega (arith, simp length-take at e))))

@@ -2,13 +2,13 @@
 use drive::Recorder;
 use state::State;
 ghost use mathlib.Core.Path.{_≡_};
-ghost use mathlib.Core.List.{List, [], _++_};
+ghost use mathlib.Core.List.{List, _++_};
 ghost use Prim.Native.Nat.{ℕ, _+_, _<_, _≤_};
 ghost use lib.ListN.{length, take, drop, replicate};
 ghost use Rattle.model.specs.Driving.{output};
 ghost use Rattle.drive.specs.Recorder.{Ready};
 ghost use Rattle.input.specs.declared.Walk.{Walk};
-ghost use Rattle.input.specs.Ahead.{ahead, Sound};
+ghost use Rattle.input.specs.Ahead.{ahead, closer, Sound};
 
 // How far the program has come.
 pub struct Walk {
@@ -86,8 +86,7 @@ pub fn advance(
 // What stands for the rest of the input at its end: the line feed that a held line lacks, so that every line is walked at one place.
 pub fn closing(held: usize, piece: &mut [u8]) -> usize
     requires { ⌜ 1 ≤ length (now piece) ⌝ }
-    ensures { λ r. ⌜ ((w : Walk) (line flash spare disk out : List ℕ) → w .held ≡ held → length line ≡ 513 → ahead w line flash spare disk out (take r (now (piece .exit))) ≡ ahead w line flash spare disk out []) ⌝ }
-    ensures { λ r. ⌜ (r ≤ length (now (piece .exit))) × ((w : Walk) (line flash spare disk out : List ℕ) → w .held ≡ held → r ≡ 0 → ahead w line flash spare disk out [] ≡ take (w .printed) out) ⌝ }
+    ensures { λ r. ⌜ (take r (now (piece .exit)) ≡ closer held) × (r ≤ length (now (piece .exit))) ⌝ }
 {
     if held == 0 {
         return 0;

@@ -1,61 +1,99 @@
 // The driving program: lines from standard input, and what is printed of each to standard output.
 use input::Walk;
 ghost use mathlib.Core.Path.{_≡_};
-ghost use Prim.Native.Nat.{_+_, _<_, _≤_};
-ghost use lib.ListN.{length};
-ghost use Rattle.io.specs.Counts.{Counts};
-ghost use Rattle.calls.specs.Arrays.{Arrays};
-ghost use Rattle.input.specs.Ahead.{Sound};
+ghost use mathlib.Core.Bool.{true, false};
+ghost use Prim.Native.Nat.{_<_, _≤_};
+ghost use lib.ListN.{length, take, replicate};
+ghost use Rattle.lists.specs.Lists.{if_then_else_};
+ghost use Rattle.model.specs.Driving.{output};
+ghost use Rattle.input.specs.Ahead.{ahead, closer, Sound};
+ghost use Rattle.input.specs.Ways.{Begun, Walked, Closed};
+ghost use Rattle.tugmerov.specs.Whole.{Reached, Ended, Whole};
 
-fn read_piece(piece: &mut [u8]) -> usize
-    ensures { λ r. ⌜ Counts r (now (piece .exit)) ⌝ }
-{
-    let got = libc::read(0, piece);
-    io::count(got, piece)
+// What a read gave: so many bytes or the end of the input; neither where it failed.
+struct Got {
+    count: usize,
+    ended: bool,
 }
 
-// What is printed is written, and the output begins anew.
-fn write_out(mut w: Walk, out: &[u8]) -> Walk
-    requires { ⌜ w .printed ≤ length (now out) ⌝ }
-    ensures { λ r. ⌜ (r .recorder ≡ w .recorder) × (r .held ≡ w .held) × (r .passed ≡ w .passed) × (r .printed ≡ 0) ⌝ }
-{
-    let n = w.printed;
-    io::write_all(1, &out[..n]);
-    w.printed = 0;
-    w
+// How far the program has come, and how many characters `write` took on the way: by their number the contracts say which they were.
+struct Told {
+    walk: Walk,
+    written: usize,
 }
 
-// Room for the text of one more line.
-fn with_room(w: Walk, out: &[u8]) -> Walk
-    requires { ⌜ (w .printed ≤ length (now out)) × (32775 ≤ length (now out)) ⌝ }
-    ensures { λ r. ⌜ (r .recorder ≡ w .recorder) × (r .held ≡ w .held) × (r .passed ≡ w .passed) × (r .printed + 32775 ≤ length (now (out .entry))) ⌝ }
+// Where the program stopped, and whether at the end of the input.
+struct Came {
+    walk: Walk,
+    ended: bool,
+}
+
+// Whether the call that failed may do better: it was interrupted, or the other side was not ready and has had a turn.
+fn passing() -> bool {
+    let error = os::errno();
+    if error == libc::EAGAIN {
+        libc::sched_yield();
+    }
+    (error == libc::EINTR) | (error == libc::EAGAIN)
+}
+
+// Whether a call with this answer is made again.
+fn again(answer: isize, tries: u64) -> bool
+    ensures { λ r. ⌜ (r ≡ true → 0 < tries) ⌝ }
 {
-    if out.len() - w.printed < 32775 {
-        write_out(w, out)
-    } else {
-        w
+    if answer >= 0 {
+        return false;
+    }
+    passing() & (tries > 0)
+}
+
+// A proved loop has to end, and nothing says that the other side will be ready: the loop counts its tries down.
+fn read_piece(piece: &mut [u8]) -> Got
+    ensures { λ r. ⌜ (r .count ≤ length (now (piece .exit))) × (r .ended ≡ true → r .count ≡ 0) ⌝ }
+{
+    let mut got = libc::read(0, piece);
+    let mut tries = u64::MAX;
+    while again(got, tries) {
+        got = libc::read(0, piece);
+        tries -= 1;
+    }
+    let count = io::count(got, piece);
+    Got {
+        count,
+        ended: (count == 0) & (got >= 0),
     }
 }
 
-fn step(
-    w: Walk,
-    piece: &[u8],
-    line: &mut [u8],
-    buffer: &mut [u8],
-    flash: &mut [u8],
-    spare: &mut [u8],
-    disk: &mut [u8],
-    out: &mut [u8],
-) -> Walk
-    requires { ⌜ Sound w (now line) (now buffer) (now flash) (now spare) (now disk) (now out) ⌝ }
-    requires { ⌜ (w .passed < length (now piece)) × (32775 ≤ length (now out)) ⌝ }
-    ensures { λ r. ⌜ Sound r (now (line .exit)) (now (buffer .exit)) (now (flash .exit)) (now (spare .exit)) (now (disk .exit)) (now (out .exit)) × (w .passed < r .passed) × (r .passed ≤ length (now (piece .entry))) ⌝ }
+// One write, of some of the text; of none where the output failed.
+fn write_some(text: &[u8]) -> usize
+    ensures { λ r. ⌜ r ≤ length (now (text .entry)) ⌝ }
 {
-    let ready = with_room(w, out);
-    input::advance(ready, piece, line, buffer, flash, spare, disk, out)
+    let mut put = libc::write(1, text);
+    let mut tries = u64::MAX;
+    while again(put, tries) {
+        put = libc::write(1, text);
+        tries -= 1;
+    }
+    io::count(put, text)
 }
 
-// The lines of a piece are answered before the next is read: someone may wait for the answers.
+// How many characters of the text were written: all, unless the output failed.
+fn write_out(text: &[u8]) -> usize
+    ensures { λ r. ⌜ r ≤ length (now (text .entry)) ⌝ }
+{
+    let mut written = 0;
+    while written < text.len() {
+        let put = write_some(&text[written..]);
+        if put == 0 {
+            return written;
+        }
+        written += put;
+    }
+    written
+}
+
+// The lines of a piece are answered before the next is read: someone may wait for the answers. Where the output fails the walk ends, with characters
+// that are printed and not written.
 fn walk_piece(
     w: Walk,
     piece: &[u8],
@@ -65,30 +103,61 @@ fn walk_piece(
     spare: &mut [u8],
     disk: &mut [u8],
     out: &mut [u8],
-) -> Walk
-    requires { ⌜ Sound w (now line) (now buffer) (now flash) (now spare) (now disk) (now out) × (32775 ≤ length (now out)) ⌝ }
-    ensures { λ r. ⌜ Sound r (now (line .exit)) (now (buffer .exit)) (now (flash .exit)) (now (spare .exit)) (now (disk .exit)) (now (out .exit)) ⌝ }
+) -> Told
+    requires { ⌜ Sound w (now line) (now buffer) (now flash) (now spare) (now disk) (now out) × (w .printed ≡ 0) ⌝ }
+    requires { ⌜ (length (now piece) ≤ 65536) × (32775 ≤ length (now out)) × (length (now out) ≤ 131072) ⌝ }
+    ensures { λ r. ⌜ Sound (r .walk) (now (line .exit)) (now (buffer .exit)) (now (flash .exit)) (now (spare .exit)) (now (disk .exit)) (now (out .exit)) ⌝ }
+    ensures { λ r. ⌜ Begun (ahead w (now (line .entry)) (now (flash .entry)) (now (spare .entry)) (now (disk .entry)) (now (out .entry))) (now (piece .entry)) (r .written) ⌝ }
+    ensures { λ r. ⌜ (r .walk .printed ≡ 0 → Walked (ahead w (now (line .entry)) (now (flash .entry)) (now (spare .entry)) (now (disk .entry)) (now (out .entry))) (now (piece .entry)) (r .written) (ahead (r .walk) (now (line .exit)) (now (flash .exit)) (now (spare .exit)) (now (disk .exit)) (now (out .exit)))) ⌝ }
 {
     let mut walk = w;
+    let mut written = 0;
     walk.passed = 0;
-    while walk.passed < piece.len() {
-        walk = step(walk, piece, line, buffer, flash, spare, disk, out);
+    while walk.passed < piece.len() && walk.printed == 0 {
+        walk = input::advance(walk, piece, line, buffer, flash, spare, disk, out);
+        let printed = walk.printed;
+        let put = write_out(&out[..printed]);
+        walk.printed = printed - put;
+        written += put;
     }
-    write_out(walk, out)
+    Told { walk, written }
 }
 
 // How many bytes of the piece are there to be walked: those that were read or, at the end of the input, what closes it.
-fn closed(got: usize, held: usize, piece: &mut [u8]) -> usize
-    requires { ⌜ (1 ≤ length (now piece)) × (got ≤ length (now piece)) ⌝ }
-    ensures { λ r. ⌜ r ≤ length (now (piece .exit)) ⌝ }
+fn closed(got: Got, held: usize, piece: &mut [u8]) -> usize
+    requires { ⌜ (1 ≤ length (now piece)) × (got .count ≤ length (now piece)) ⌝ }
+    ensures { λ r. ⌜ (take r (now (piece .exit)) ≡ (if got .ended then closer held else take (got .count) (now (piece .entry)))) × (r ≤ length (now (piece .exit))) ⌝ }
 {
-    if got == 0 {
+    if got.ended {
         return input::closing(held, piece);
     }
-    got
+    got.count
 }
 
-// A proved loop has to end, and nothing says that the input does: the loop counts its turns down.
+// What was read is walked, and at the end of the input the line that lacks its line feed.
+fn turn(
+    w: Walk,
+    got: Got,
+    piece: &mut [u8],
+    line: &mut [u8],
+    buffer: &mut [u8],
+    flash: &mut [u8],
+    spare: &mut [u8],
+    disk: &mut [u8],
+    out: &mut [u8],
+) -> Told
+    requires { ⌜ Sound w (now line) (now buffer) (now flash) (now spare) (now disk) (now out) × (w .printed ≡ 0) ⌝ }
+    requires { ⌜ (length (now piece) ≡ 65536) × (got .count ≤ 65536) × (length (now out) ≡ 131072) ⌝ }
+    ensures { λ r. ⌜ Sound (r .walk) (now (line .exit)) (now (buffer .exit)) (now (flash .exit)) (now (spare .exit)) (now (disk .exit)) (now (out .exit)) ⌝ }
+    ensures { λ r. ⌜ Begun (ahead w (now (line .entry)) (now (flash .entry)) (now (spare .entry)) (now (disk .entry)) (now (out .entry))) (if got .ended then closer (w .held) else take (got .count) (now (piece .entry))) (r .written) ⌝ }
+    ensures { λ r. ⌜ (got .ended ≡ false → r .walk .printed ≡ 0 → Walked (ahead w (now (line .entry)) (now (flash .entry)) (now (spare .entry)) (now (disk .entry)) (now (out .entry))) (take (got .count) (now (piece .entry))) (r .written) (ahead (r .walk) (now (line .exit)) (now (flash .exit)) (now (spare .exit)) (now (disk .exit)) (now (out .exit)))) ⌝ }
+    ensures { λ r. ⌜ (got .ended ≡ true → r .walk .printed ≡ 0 → Closed (ahead w (now (line .entry)) (now (flash .entry)) (now (spare .entry)) (now (disk .entry)) (now (out .entry))) (r .written) (ahead (r .walk) (now (line .exit)) (now (flash .exit)) (now (spare .exit)) (now (disk .exit)) (now (out .exit)))) ⌝ }
+{
+    let n = closed(got, w.held, piece);
+    walk_piece(w, &piece[..n], line, buffer, flash, spare, disk, out)
+}
+
+// Nothing says that the input ends, so this loop counts its turns down too.
 fn walk_pieces(
     w: Walk,
     piece: &mut [u8],
@@ -98,20 +167,26 @@ fn walk_pieces(
     spare: &mut [u8],
     disk: &mut [u8],
     out: &mut [u8],
-)
-    requires { ⌜ Sound w (now line) (now buffer) (now flash) (now spare) (now disk) (now out) × (32775 ≤ length (now out)) ⌝ }
-    requires { ⌜ 1 ≤ length (now piece) ⌝ }
+) -> Came
+    requires { ⌜ Sound w (now line) (now buffer) (now flash) (now spare) (now disk) (now out) × (w .printed ≡ 0) ⌝ }
+    requires { ⌜ (length (now piece) ≡ 65536) × (length (now out) ≡ 131072) ⌝ }
+    ensures { λ r. ⌜ (r .ended ≡ false → r .walk .printed ≡ 0 → Reached (ahead w (now (line .entry)) (now (flash .entry)) (now (spare .entry)) (now (disk .entry)) (now (out .entry))) (ahead (r .walk) (now (line .exit)) (now (flash .exit)) (now (spare .exit)) (now (disk .exit)) (now (out .exit)))) ⌝ }
+    ensures { λ r. ⌜ (r .ended ≡ true → r .walk .printed ≡ 0 → Ended (ahead w (now (line .entry)) (now (flash .entry)) (now (spare .entry)) (now (disk .entry)) (now (out .entry))) (ahead (r .walk) (now (line .exit)) (now (flash .exit)) (now (spare .exit)) (now (disk .exit)) (now (out .exit)))) ⌝ }
 {
     let mut walk = w;
-    let mut turns = u64::MAX;
     let mut ended = false;
-    while turns > 0 && !ended {
+    let mut more = true;
+    let mut turns = u64::MAX;
+    while more && turns > 0 {
         let got = read_piece(piece);
-        let n = closed(got, walk.held, piece);
-        walk = walk_piece(walk, &piece[..n], line, buffer, flash, spare, disk, out);
-        ended = got == 0;
+        let told = turn(walk, got, piece, line, buffer, flash, spare, disk, out);
+        let next = told.walk;
+        walk = next;
+        ended = got.ended;
+        more = (got.count > 0) & (walk.printed == 0);
         turns -= 1;
     }
+    Came { walk, ended }
 }
 
 fn walk_input(
@@ -122,12 +197,23 @@ fn walk_input(
     spare: &mut [u8],
     disk: &mut [u8],
     out: &mut [u8],
-)
-    requires { ⌜ (length (now line) ≡ 513) × (65535 ≤ length (now buffer)) × (32775 ≤ length (now out)) × (1 ≤ length (now piece)) ⌝ }
-    requires { ⌜ Arrays (now flash) (now spare) (now disk) ⌝ }
+) -> Came
+    requires { ⌜ (length (now piece) ≡ 65536) × (length (now line) ≡ 513) × (65535 ≤ length (now buffer)) × (length (now out) ≡ 131072) ⌝ }
+    requires { ⌜ (now flash ≡ replicate 32768 0) × (now spare ≡ replicate 32768 0) × (now disk ≡ replicate 16384 0) ⌝ }
+    ensures { λ r. ⌜ (r .ended ≡ false → r .walk .printed ≡ 0 → Reached output (ahead (r .walk) (now (line .exit)) (now (flash .exit)) (now (spare .exit)) (now (disk .exit)) (now (out .exit)))) ⌝ }
+    ensures { λ r. ⌜ (r .ended ≡ true → r .walk .printed ≡ 0 → Whole (ahead (r .walk) (now (line .exit)) (now (flash .exit)) (now (spare .exit)) (now (disk .exit)) (now (out .exit)))) ⌝ }
 {
     let start = input::start();
-    walk_pieces(start, piece, line, buffer, flash, spare, disk, out);
+    walk_pieces(start, piece, line, buffer, flash, spare, disk, out)
+}
+
+// Where the program stopped early standard error says why: the call that failed was the last.
+fn report(came: Came) {
+    if came.walk.printed > 0 {
+        os::fail(b"tugmerov: standard output");
+    } else if !came.ended {
+        os::fail(b"tugmerov: standard input");
+    }
 }
 
 fn main() {
@@ -138,7 +224,7 @@ fn main() {
     let mut spare = [0u8; 32768];
     let mut disk = [0u8; 16384];
     let mut out = [0u8; 131072];
-    walk_input(
+    let came = walk_input(
         &mut piece,
         &mut line,
         &mut buffer,
@@ -147,4 +233,5 @@ fn main() {
         &mut disk,
         &mut out,
     );
+    report(came);
 }

@@ -2,6 +2,7 @@
 use lib.ListN.{length-replicate}
 use native.Mathlib.Omega.{arith}
 use Prim.Native.Nat.{ℕ}
+use mathlib.Core.Path.{refl}
 use borrow.Author.Needs.{needs}
 use Rattle.tugmerov.proofs.main.Statement.{statement}
 use Rattle.tugmerov.proofs.main.Tie as tie
@@ -29,9 +30,12 @@ slice-aggregate-walk-input-7 c = search needs
 
 walk-input-requires : tie.Need-walk-input-requires
 walk-input-requires c κs = (
-  (length-replicate {A = ℕ} 513 0, omega (arith, length-replicate {A = ℕ} 65536 0), omega (arith, length-replicate {A = ℕ} 131072 0), omega (arith, length-replicate {A = ℕ} 65536 0)),
-  record { flash-length = length-replicate {A = ℕ} 32768 0; spare-length = length-replicate {A = ℕ} 32768 0; disk-length = length-replicate {A = ℕ} 16384 0 },
+  (length-replicate {A = ℕ} 65536 0, length-replicate {A = ℕ} 513 0, omega (arith, length-replicate {A = ℕ} 65536 0), length-replicate {A = ℕ} 131072 0),
+  (refl, refl, refl),
 )
+
+report-requires : tie.Need-report-requires
+report-requires c κs = search needs
 
 returns : tie.Need-returns
 returns c = search needs
@@ -48,4 +52,5 @@ main-spec =
     slice-aggregate-walk-input-6
     slice-aggregate-walk-input-7
     walk-input-requires
+    report-requires
     returns)

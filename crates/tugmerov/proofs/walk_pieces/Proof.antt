@@ -1,63 +1,44 @@
 -- `tugmerov::walk_pieces` meets its contract.
-use lib.ListN.{length, length-take}
 use borrow.Author.Needs.{needs}
-use native.Mathlib.Omega.{arith}
+use borrow.Author.Tests.{ltb-true}
 use mathlib.Core.Path.{_≡_, refl}
-use Rattle.input.specs.Ahead.{Sound}
+use native.Mathlib.Omega.{arith}
+use lib.ListN.{length, take}
+use Rattle.tugmerov.proofs.Going.{Going, set-out, going}
+use Rattle.input.specs.Ahead.{ahead}
 use Rattle.tugmerov.proofs.walk_pieces.Statement.{statement}
 use Rattle.tugmerov.proofs.walk_pieces.Tie as tie
 
 abbrev Inv-loop : tie.InvT-loop
-Inv-loop piece₀ line₀ buffer₀ flash₀ spare₀ disk₀ out₀ walk₀ turns₀ ended₀ piece line buffer flash spare disk out walk turns ended =
-    Sound walk line buffer flash spare disk out × (length piece ≡ length piece₀) × (length line ≡ length line₀) × (length buffer ≡ length buffer₀) × (length flash ≡ length flash₀) × (length spare ≡ length spare₀) × (length disk ≡ length disk₀) × (length out ≡ length out₀)
+Inv-loop piece₀ line₀ buffer₀ flash₀ spare₀ disk₀ out₀ walk₀ ended₀ more₀ turns₀ piece line buffer flash spare disk out walk ended more turns =
+    Going (ahead walk₀ line₀ flash₀ spare₀ disk₀ out₀) walk line buffer flash spare disk out ended more
+    × (length piece ≡ length piece₀) × (length line ≡ length line₀) × (length buffer ≡ length buffer₀) × (length flash ≡ length flash₀) × (length spare ≡ length spare₀) × (length disk ≡ length disk₀) × (length out ≡ length out₀)
 
 abbrev μ-loop : tie.MeasureT-loop
-μ-loop piece₀ line₀ buffer₀ flash₀ spare₀ disk₀ out₀ walk₀ turns₀ ended₀ piece line buffer flash spare disk out walk turns ended =
+μ-loop piece₀ line₀ buffer₀ flash₀ spare₀ disk₀ out₀ walk₀ ended₀ more₀ turns₀ piece line buffer flash spare disk out walk ended more turns =
     turns
 
 loop-holds : tie.Need-loop-holds Inv-loop μ-loop
-loop-holds c = (c .before .before .before .before .before .before .before .pre .0 .0, refl, refl, refl, refl, refl, refl, refl)
+loop-holds c = (set-out _ _ _ _ _ _ _ (c .before .before .before .before .before .before .before .pre .0 .0) (c .before .before .before .before .before .before .before .pre .0 .1), refl, refl, refl, refl, refl, refl, refl)
 
 read-piece-requires : tie.Need-read-piece-requires Inv-loop μ-loop
 read-piece-requires c κs = search needs
 
-closed-requires : tie.Need-closed-requires Inv-loop μ-loop
-closed-requires c κs =
-    let start = c .before .before .before .before .before .before .before .before .before .before .before .before .before .before .before in
-    (omega (arith, c .before .before .piece .given, c .before .before .before .before .before .before .before .loop .inv .1, start .pre .1), c .before .before .before .read-piece .ensures .0)
-
-slice-reshare-prefix-walk-piece : tie.Need-slice-reshare-prefix-walk-piece Inv-loop μ-loop
-slice-reshare-prefix-walk-piece c = c .before .before .closed .ensures
-
-slice-aggregate-walk-piece : tie.Need-slice-aggregate-walk-piece Inv-loop μ-loop
-slice-aggregate-walk-piece c = simp length-take (omega (arith, c .before .before .before .closed .ensures))
-
-walk-piece-requires : tie.Need-walk-piece-requires Inv-loop μ-loop
-walk-piece-requires c κs =
-    let loop = c .before .before .before .before .before .before .before .before .before .before .before .before .before .before .before .before .before .loop in
-    let start = c .before .before .before .before .before .before .before .before .before .before .before .before .before .before .before .before .before .before .before .before .before .before .before .before .before in
-    (loop .inv .0, omega (arith, loop .inv .7, start .pre .0 .1))
+turn-requires : tie.Need-turn-requires Inv-loop μ-loop
+turn-requires c κs = let inv = c .before .before .before .before .before .before .before .before .before .before .before .before .before .loop .inv in ((inv .0 .sound, inv .0 .on (c .before .before .before .before .before .before .before .before .before .before .before .before .loop-test .taken) .1), (omega (arith, c .before .before .before .before .before .before .before .before .piece .given, inv .1, c .before .before .before .before .before .before .before .before .before .before .before .before .before .before .before .before .before .before .before .before .before .pre .1 .0), omega (arith, c .before .before .before .before .before .before .before .before .before .read-piece .ensures .0, c .before .before .before .before .before .before .before .before .piece .given, inv .1, c .before .before .before .before .before .before .before .before .before .before .before .before .before .before .before .before .before .before .before .before .before .pre .1 .0), omega (arith, inv .7, c .before .before .before .before .before .before .before .before .before .before .before .before .before .before .before .before .before .before .before .before .before .pre .1 .1)))
 
 sub-turns : tie.Need-sub-turns Inv-loop μ-loop
-sub-turns c =
-    let loop-test = c .before .before .before .before .before .before .before .before .before .before .before .before .before .before .before .before .before .before .before .before .before .before .before .before .before .before .before .before .before .loop-test in
-    omega (arith, loop-test .taken)
+sub-turns c = ltb-true 0 (c .before .before .before .before .before .before .before .before .before .before .before .before .before .before .before .before .before .before .before .before .before .before .before .before .before .before .before .before .before .before .before .loop .turns) (c .before .before .before .before .before .before .before .before .before .before .before .before .before .before .before .before .before .before .before .before .before .before .before .before .before .before .before .before .before .if1 .taken)
 
 loop-less : tie.Need-loop-less Inv-loop μ-loop
-loop-less c =
-    let loop-test = c .before .before .before .before .before .before .before .before .before .before .before .before .before .before .before .before .before .before .before .before .before .before .before .before .before .before .before .before .before .loop-test in
-    omega (arith, loop-test .taken)
+loop-less c = omega (arith, ltb-true 0 (c .before .before .before .before .before .before .before .before .before .before .before .before .before .before .before .before .before .before .before .before .before .before .before .before .before .before .before .before .before .before .before .loop .turns) (c .before .before .before .before .before .before .before .before .before .before .before .before .before .before .before .before .before .before .before .before .before .before .before .before .before .before .before .before .before .if1 .taken))
 
 loop-again : tie.Need-loop-again Inv-loop μ-loop
-loop-again c =
-    let loop = c .before .before .before .before .before .before .before .before .before .before .before .before .before .before .before .before .before .before .before .before .before .before .before .before .before .before .before .before .before .before .loop in
-    let walk-piece = c .before .before .before .before .before .before .before .before .before .before .before .before .walk-piece in
-    let piece2 = c .before .before .before .before .before .before .before .before .before .before .before .before .before .before .before .before .before .before .before .before .before .piece2 in
-    let piece = c .before .before .before .before .before .before .before .before .before .before .before .before .before .before .before .before .before .before .before .before .before .before .before .before .before .piece in
-    let line = c .before .before .before .before .before .before .before .before .before .before .before .line in
-    let buffer = c .before .before .before .before .before .before .before .before .before .buffer in
-    let v = loop .inv in
-    (walk-piece .ensures, omega (arith, piece2 .given, piece .given, v .1), omega (arith, line .given, v .2), omega (arith, buffer .given, v .3), omega (arith, c .before .before .before .before .before .before .before .flash .given, v .4), omega (arith, c .before .before .before .before .before .spare .given, v .5), omega (arith, c .before .before .before .disk .given, v .6), omega (arith, c .before .out .given, v .7))
+loop-again c = let l = c .before .before .before .before .before .before .before .before .before .before .before .before .before .before .before .before .before .before .before .before .before .before .before .before .before .before .before .before .before .before .before .loop in
+    let got = c .before .before .before .before .before .before .before .before .before .before .before .before .before .before .before .before .before .before .before .before .before .before .before .before .before .before .before .read-piece in
+    let told = c .before .before .before .before .before .before .before .before .before .before .before .before .before .before .before .before .before .turn in
+    let on = l .inv .0 .on (c .before .before .before .before .before .before .before .before .before .before .before .before .before .before .before .before .before .before .before .before .before .before .before .before .before .before .before .before .before .before .loop-test .taken) in
+    (going _ (l .walk) _ _ _ _ _ (l .inv .0 .reached (on .0) (on .1)) (got .result .count) (got .result .ended) (got .ensures .1) (told .result .walk) _ _ _ _ _ _ (told .ensures .0) (take (got .result .count) (got .last .0)) (told .result .written) (told .ensures .1 .1 .0) (told .ensures .1 .1 .1), omega (arith, c .before .before .before .before .before .before .before .before .before .before .before .before .before .before .before .before .piece2 .given, c .before .before .before .before .before .before .before .before .before .before .before .before .before .before .before .before .before .before .before .before .before .before .before .before .before .before .piece .given, l .inv .1), omega (arith, c .before .before .before .before .before .before .before .before .before .before .before .before .before .before .line .given, l .inv .2), omega (arith, c .before .before .before .before .before .before .before .before .before .before .before .before .buffer .given, l .inv .3), omega (arith, c .before .before .before .before .before .before .before .before .before .before .flash .given, l .inv .4), omega (arith, c .before .before .before .before .before .before .before .before .spare .given, l .inv .5), omega (arith, c .before .before .before .before .before .before .disk .given, l .inv .6), omega (arith, c .before .before .before .before .out .given, l .inv .7))
 
 same-length : tie.Need-same-length Inv-loop μ-loop
 same-length c = c .before .before .loop .inv .1
@@ -81,7 +62,7 @@ same-length-7 : tie.Need-same-length-7 Inv-loop μ-loop
 same-length-7 c = c .before .before .loop .inv .7
 
 returns : tie.Need-returns Inv-loop μ-loop
-returns c = search needs
+returns c = (c .before .before .loop .inv .0 .reached, c .before .before .loop .inv .0 .closed)
 
 same-length-8 : tie.Need-same-length-8 Inv-loop μ-loop
 same-length-8 c = c .before .loop .inv .1
@@ -105,7 +86,7 @@ same-length-14 : tie.Need-same-length-14 Inv-loop μ-loop
 same-length-14 c = c .before .loop .inv .7
 
 returns-2 : tie.Need-returns-2 Inv-loop μ-loop
-returns-2 c = search needs
+returns-2 c = (c .before .loop .inv .0 .reached, c .before .loop .inv .0 .closed)
 
 pub walk-pieces-spec : {M : Type 1} → statement M
 walk-pieces-spec =
@@ -115,10 +96,7 @@ walk-pieces-spec =
     μ-loop
     loop-holds
     read-piece-requires
-    closed-requires
-    slice-reshare-prefix-walk-piece
-    slice-aggregate-walk-piece
-    walk-piece-requires
+    turn-requires
     sub-turns
     loop-less
     loop-again
