@@ -51,7 +51,6 @@ unfoldable pub texts : List Leg → List ℕ
 texts [] = []
 texts (l ∷ ls) = l .text ++ texts ls
 
--- "Whole input, then whole output": whatever the pieces, the texts written of them and what is written at the end of the input are the output of the
--- whole
+-- "Whole input, then whole output": whatever the pieces, the texts written of them and then what is to come at the end are the output of the whole
 unfoldable pub WholeInput : Type 0
 WholeInput = (legs : List Leg) (to : Place) → Ways output legs to → texts legs ++ to [] ≡ output (pieces legs)
