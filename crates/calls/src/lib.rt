@@ -125,7 +125,7 @@ fn make(
     ensures { λ r. ⌜ r .read ≡ length (lentBuffer (callOf z (bytesOf (now (line .entry))))) ⌝ }
 {
     match request {
-        Request::Bad => unread(outcome::refused(240, s)),
+        Request::Bad => unread(outcome::refused(model::NO_FRAME, s)),
         Request::Format { allowance, sizes } => {
             unread(format::format(s, sizes, allowance, flash, spare, disk))
         }

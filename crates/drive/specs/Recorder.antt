@@ -31,10 +31,17 @@ outcomeOf h = record { answer = h .outcome .answer; stores = h .outcome .stores;
 abbrev pub Ready : (formatted : Bool) → Sizes → Type 0
 Ready formatted z = formatted ≡ true → Held z
 
+-- the most bytes that a line may ask for, and the longest text: answer, stores and 16,384 bytes read, two digits each, and a line feed
+abbrev pub mostRead : ℕ
+mostRead = 65535
+
+abbrev pub longestText : ℕ
+longestText = 32775
+
 -- what a line is walked with beside the arrays: room for the bytes that it reads and for its text
 pub record Room (buffer out : List ℕ) : Type 0 where
-  pub buffer-room : 65535 ≤ length buffer
-  pub out-room : 32775 ≤ length out
+  pub buffer-room : mostRead ≤ length buffer
+  pub out-room : longestText ≤ length out
 
 -- the struct after a call at the sizes z
 abbrev pub after : RecorderStruct → Sizes → Struct → (formats : Bool) → RecorderStruct

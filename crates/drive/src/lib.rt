@@ -21,6 +21,14 @@ ghost use Rattle.calls.specs.Arrays.{Arrays, Held};
 ghost use Rattle.drive.specs.Recorder.{recorderOf, printedOf, outcomeOf, Ready, Room, after, calledLine};
 ghost use Rattle.drive.specs.Asking.{formatUnmade, unmade, sizesAsked};
 
+// "Its flash buffer is 32,768 bytes, spare areas included; its disk is 16,384"
+pub const FLASH: usize = 32768;
+
+pub const DISK: usize = 16384;
+
+// The longest text of a line: answer, stores and the bytes of the whole disk, two digits each, and a line feed.
+pub const LONGEST_TEXT: usize = 32775;
+
 // What the program holds from line to line beside its arrays; the sizes are those of the last Done format, if there was one.
 pub struct Recorder {
     pub state: State,
@@ -53,9 +61,9 @@ fn print(o: Outcome, bytes: &[u8], out: &mut [u8]) -> usize
 {
     let answer = o.answer;
     match answer {
-        Answer::Done => text::show(0, o.stores, bytes, out),
-        Answer::Idle => text::show(16, 0, b"", out),
-        Answer::Cut => text::show(17, o.stores, b"", out),
+        Answer::Done => text::show(model::DONE, o.stores, bytes, out),
+        Answer::Idle => text::show(model::IDLE, 0, b"", out),
+        Answer::Cut => text::show(model::CUT, o.stores, b"", out),
         Answer::Refused(number) => text::show(number, 0, b"", out),
     }
 }
@@ -80,7 +88,7 @@ fn too_large(z: Sizes) -> bool
 {
     let chip = z.c * z.p * (z.s + 16);
     let bucket = z.p * z.s;
-    (32768 < chip) | (16384 < z.b * bucket)
+    (FLASH < chip) | (DISK < z.b * bucket)
 }
 
 // The recorder after a call at the sizes z: a Done format's sizes are kept. Only the sizes are chosen between: a choice between recorders would copy the state.
@@ -137,7 +145,7 @@ fn format_unmade(z: Sizes) -> u8
     if !geometry::limits(z) {
         return 1;
     }
-    if too_large(z) { 241 } else { 0 }
+    if too_large(z) { model::NO_ROOM } else { 0 }
 }
 
 // What a line asks for: the number printed of it if it makes no call, or 0; the sizes of its call; whether that is a format.
@@ -153,7 +161,7 @@ fn asks(formatted: bool, kept: Sizes, request: Request) -> Asked
 {
     match request {
         Request::Bad => Asked {
-            unmade: 240,
+            unmade: model::NO_FRAME,
             sizes: kept,
             format: false,
         },

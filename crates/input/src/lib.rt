@@ -6,9 +6,9 @@ ghost use mathlib.Core.List.{List, _++_};
 ghost use Prim.Native.Nat.{ℕ, _+_, _<_, _≤_};
 ghost use lib.ListN.{length, take, drop, replicate};
 ghost use Rattle.model.specs.Driving.{output};
-ghost use Rattle.drive.specs.Recorder.{Ready};
+ghost use Rattle.drive.specs.Recorder.{longestText, Ready};
 ghost use Rattle.input.specs.declared.Walk.{Walk};
-ghost use Rattle.input.specs.Ahead.{ahead, closer, Sound};
+ghost use Rattle.input.specs.Ahead.{lineRoom, ahead, closer, Sound};
 
 // How far the program has come.
 pub struct Walk {
@@ -21,18 +21,21 @@ pub struct Walk {
     pub printed: usize,
 }
 
-// More bytes of the line. It is cut at 513, for any longer line is F0 too.
+// The bytes that are held of a line: any longer one is F0, whatever follows.
+pub const LINE_ROOM: usize = 513;
+
+// More bytes of the line, up to so many.
 fn gather(line: &mut [u8], held: usize, bytes: &[u8]) -> usize
-    requires { ⌜ (length (now line) ≡ 513) × (held ≤ 513) ⌝ }
-    ensures { λ r. ⌜ (r ≤ 513) × (take r (now (line .exit)) ≡ take 513 (take held (now (line .entry)) ++ now (bytes .entry))) ⌝ }
+    requires { ⌜ (length (now line) ≡ lineRoom) × (held ≤ lineRoom) ⌝ }
+    ensures { λ r. ⌜ (r ≤ lineRoom) × (take r (now (line .exit)) ≡ take lineRoom (take held (now (line .entry)) ++ now (bytes .entry))) ⌝ }
 {
-    let room = 513 - held;
+    let room = LINE_ROOM - held;
     if bytes.len() <= room {
         area::write_at(line, held, bytes);
         return held + bytes.len();
     }
     area::write_at(line, held, &bytes[..room]);
-    513
+    LINE_ROOM
 }
 
 // Line by line, each walked once it is whole, up to the end of the piece or of the room for its text.
@@ -47,12 +50,12 @@ pub fn advance(
     out: &mut [u8],
 ) -> Walk
     requires { ⌜ Sound w (now line) (now buffer) (now flash) (now spare) (now disk) (now out) ⌝ }
-    requires { ⌜ (w .passed < length (now piece)) × (w .printed + 32775 ≤ length (now out)) ⌝ }
+    requires { ⌜ (w .passed < length (now piece)) × (w .printed + longestText ≤ length (now out)) ⌝ }
     ensures { λ r. ⌜ ((rest : List ℕ) → ahead r (now (line .exit)) (now (flash .exit)) (now (spare .exit)) (now (disk .exit)) (now (out .exit)) (drop (r .passed) (now (piece .entry)) ++ rest) ≡ ahead w (now (line .entry)) (now (flash .entry)) (now (spare .entry)) (now (disk .entry)) (now (out .entry)) (drop (w .passed) (now (piece .entry)) ++ rest)) ⌝ }
     ensures { λ r. ⌜ Sound r (now (line .exit)) (now (buffer .exit)) (now (flash .exit)) (now (spare .exit)) (now (disk .exit)) (now (out .exit)) × (w .passed < r .passed) × (r .passed ≤ length (now (piece .entry))) ⌝ }
 {
     let mut walk = w;
-    while walk.passed < piece.len() && 32775 <= out.len() - walk.printed {
+    while walk.passed < piece.len() && drive::LONGEST_TEXT <= out.len() - walk.printed {
         let from = walk.passed;
         let end = lines::line_end(piece, from);
         let held = gather(line, walk.held, &piece[from..end]);

@@ -16,6 +16,17 @@ pub const EPOCHS_END: u64 = 4294967296;
 // The highest count of accepted writes: the next halves all priorities.
 pub const LAST_COUNT: u8 = 15;
 
+// Document 01's answer bytes beside the refusals' numbers; the last two are of lines that make no call.
+pub const DONE: u8 = 0x00;
+
+pub const IDLE: u8 = 0x10;
+
+pub const CUT: u8 = 0x11;
+
+pub const NO_FRAME: u8 = 0xF0;
+
+pub const NO_ROOM: u8 = 0xF1;
+
 // Document 01's S, P, C, B, R and W.
 pub struct Sizes {
     pub s: usize,

@@ -71,9 +71,26 @@ fn four_pages() {
     run(z, &mut flash, &mut spare, &mut disk);
 }
 
+// A read queue of 64, the longest.
+fn full_queue() {
+    let z = Sizes {
+        s: 4,
+        p: 1,
+        c: 66,
+        b: 64,
+        r: 64,
+        w: 1,
+    };
+    let mut flash = [0u8; 264];
+    let mut spare = [0u8; 1056];
+    let mut disk = [0u8; 256];
+    spoiled::long_queue(z, &mut flash, &mut spare, &mut disk);
+}
+
 fn main() {
     one_page();
     two_pages();
     odd_pages();
     four_pages();
+    full_queue();
 }

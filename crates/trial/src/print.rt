@@ -17,9 +17,9 @@ pub fn print(o: Outcome, bytes: &[u8])
 {
     let answer = o.answer;
     match answer {
-        Answer::Done => line(0, o.stores, bytes),
-        Answer::Idle => line(16, o.stores, b""),
-        Answer::Cut => line(17, o.stores, b""),
+        Answer::Done => line(model::DONE, o.stores, bytes),
+        Answer::Idle => line(model::IDLE, o.stores, b""),
+        Answer::Cut => line(model::CUT, o.stores, b""),
         Answer::Refused(number) => line(number, o.stores, b""),
     }
 }

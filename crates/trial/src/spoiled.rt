@@ -62,3 +62,43 @@ pub fn refusals(s: State, flash: &mut [u8], spare: &mut [u8], disk: &mut [u8]) {
     last_epoch(s, flash, spare, disk);
     state_and_chip(s, flash, spare, disk);
 }
+
+// The state that a call leaves.
+fn left_by(
+    s: State,
+    z: Sizes,
+    call: [u8; 6],
+    flash: &mut [u8],
+    spare: &mut [u8],
+    disk: &mut [u8],
+) -> State {
+    let mut bytes = [0u8; 4];
+    let o = script::make(s, z, call, &mut bytes, flash, spare, disk);
+    o.state
+}
+
+// A format, and a read of each of 64 back-end buckets.
+fn read_each(z: Sizes, flash: &mut [u8], spare: &mut [u8], disk: &mut [u8]) -> State {
+    let mut s = left_by(
+        State::unformatted(),
+        z,
+        [b'F', 255, 0, 0, 0, 0],
+        flash,
+        spare,
+        disk,
+    );
+    let mut b = 0;
+    while b < 64 {
+        s = left_by(s, z, [b'R', 255, b, 0, 0, 0], flash, spare, disk);
+        b += 1;
+    }
+    s
+}
+
+// The read queue is as long as it may be; then its length says more than its array has places for.
+pub fn long_queue(z: Sizes, flash: &mut [u8], spare: &mut [u8], disk: &mut [u8]) {
+    let mut s = read_each(z, flash, spare, disk);
+    drains(s, flash, spare, disk);
+    s.reads.len = 1000;
+    drains(s, flash, spare, disk);
+}

@@ -6,7 +6,8 @@ ghost use Prim.Native.Nat.{_<_, _≤_};
 ghost use lib.ListN.{length, take, replicate};
 ghost use Rattle.lists.specs.Lists.{if_then_else_};
 ghost use Rattle.model.specs.Driving.{output};
-ghost use Rattle.input.specs.Ahead.{ahead, closer, Sound};
+ghost use Rattle.drive.specs.Recorder.{mostRead, longestText};
+ghost use Rattle.input.specs.Ahead.{lineRoom, ahead, closer, Sound};
 ghost use Rattle.input.specs.Ways.{Begun, Walked, Closed};
 ghost use Rattle.tugmerov.specs.Whole.{Reached, Ended, Whole};
 
@@ -105,7 +106,7 @@ fn walk_piece(
     out: &mut [u8],
 ) -> Told
     requires { ⌜ Sound w (now line) (now buffer) (now flash) (now spare) (now disk) (now out) × (w .printed ≡ 0) ⌝ }
-    requires { ⌜ (length (now piece) ≤ 65536) × (32775 ≤ length (now out)) × (length (now out) ≤ 131072) ⌝ }
+    requires { ⌜ (length (now piece) ≤ 65536) × (longestText ≤ length (now out)) × (length (now out) ≤ 131072) ⌝ }
     ensures { λ r. ⌜ Sound (r .walk) (now (line .exit)) (now (buffer .exit)) (now (flash .exit)) (now (spare .exit)) (now (disk .exit)) (now (out .exit)) ⌝ }
     ensures { λ r. ⌜ Begun (ahead w (now (line .entry)) (now (flash .entry)) (now (spare .entry)) (now (disk .entry)) (now (out .entry))) (now (piece .entry)) (r .written) ⌝ }
     ensures { λ r. ⌜ (r .walk .printed ≡ 0 → Walked (ahead w (now (line .entry)) (now (flash .entry)) (now (spare .entry)) (now (disk .entry)) (now (out .entry))) (now (piece .entry)) (r .written) (ahead (r .walk) (now (line .exit)) (now (flash .exit)) (now (spare .exit)) (now (disk .exit)) (now (out .exit)))) ⌝ }
@@ -198,7 +199,7 @@ fn walk_input(
     disk: &mut [u8],
     out: &mut [u8],
 ) -> Came
-    requires { ⌜ (length (now piece) ≡ 65536) × (length (now line) ≡ 513) × (65535 ≤ length (now buffer)) × (length (now out) ≡ 131072) ⌝ }
+    requires { ⌜ (length (now piece) ≡ 65536) × (length (now line) ≡ lineRoom) × (mostRead ≤ length (now buffer)) × (length (now out) ≡ 131072) ⌝ }
     requires { ⌜ (now flash ≡ replicate 32768 0) × (now spare ≡ replicate 32768 0) × (now disk ≡ replicate 16384 0) ⌝ }
     ensures { λ r. ⌜ (r .ended ≡ false → r .walk .printed ≡ 0 → Reached output (ahead (r .walk) (now (line .exit)) (now (flash .exit)) (now (spare .exit)) (now (disk .exit)) (now (out .exit)))) ⌝ }
     ensures { λ r. ⌜ (r .ended ≡ true → r .walk .printed ≡ 0 → Whole (ahead (r .walk) (now (line .exit)) (now (flash .exit)) (now (spare .exit)) (now (disk .exit)) (now (out .exit)))) ⌝ }
@@ -218,11 +219,11 @@ fn report(came: Came) {
 
 fn main() {
     let mut piece = [0u8; 65536];
-    let mut line = [0u8; 513];
+    let mut line = [0u8; input::LINE_ROOM];
     let mut buffer = [0u8; 65536];
-    let mut flash = [0u8; 32768];
-    let mut spare = [0u8; 32768];
-    let mut disk = [0u8; 16384];
+    let mut flash = [0u8; drive::FLASH];
+    let mut spare = [0u8; drive::FLASH];
+    let mut disk = [0u8; drive::DISK];
     let mut out = [0u8; 131072];
     let came = walk_input(
         &mut piece,
