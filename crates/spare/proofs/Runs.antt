@@ -4,11 +4,12 @@ use mathlib.Core.Path.{_≡_, refl, sym, ap, _∙_}
 use mathlib.Core.Bool.{Bool, true, _&&_}
 use mathlib.Core.List.{List, [], _∷_}
 use native.Mathlib.Omega.{arith}
-use lib.ListN.{length, getD, getD-replicate}
-use lib.Seq.{ext-getD}
+use lib.ListN.{length, take, drop, getD, getD-replicate, take-append-drop}
+use lib.Seq.{ext-getD, drop-drop}
 use lib.Dec.{eqb}
 use Rattle.lists.specs.Lists.{all, allBelow, part, same, ff}
 use Rattle.lists.proofs.Tests.{same-truth}
+use Rattle.lists.proofs.Arrays.{all-append}
 use Rattle.lists.proofs.Rows.{all-below, below-all}
 use Rattle.lists.proofs.Parts.{getD-part, length-part-fits, length-ff, part-ff}
 use Rattle.lists.proofs.Sames.{same-equal, same-self}
@@ -31,6 +32,16 @@ pub all-erased : (l : List ℕ) → all isErased l ≡ same l (ff (length l))
 unfolding all same
 all-erased [] = refl
 all-erased (x ∷ l) = ap (λ (t : Bool). isErased x && t) (all-erased l)
+
+-- n bytes more of a run
+pub erased-more : (l : List ℕ) (i n : ℕ) → i + n ≤ length l → all isErased (drop i l) ≡ (same (part l i n) (ff n) && all isErased (drop (i + n) l))
+unfolding part
+erased-more l i n h =
+    let here : all isErased (take n (drop i l)) ≡ same (take n (drop i l)) (ff n) =
+    all-erased (take n (drop i l)) ∙ ap (λ (k : ℕ). same (take n (drop i l)) (ff k)) (length-part-fits l i n h) in
+    ap (all isErased) (sym (take-append-drop n (drop i l)))
+    ∙ all-append isErased (take n (drop i l)) (drop n (drop i l))
+    ∙ rw (here, drop-drop n i l)
 
 -- page by page
 pub run-pages : (spare : List ℕ) (page n : ℕ) → (page + n) * 16 ≤ length spare

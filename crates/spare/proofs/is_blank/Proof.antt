@@ -1,22 +1,17 @@
-use mathlib.Core.Path.{sym, ap, _∙_}
-use Prim.Native.Nat.{ℕ}
 use borrow.Author.Needs.{needs}
-use Rattle.lists.specs.Lists.{same, ff}
-use Rattle.lists.proofs.Sames.{same-lengths}
 use Rattle.model.specs.Spare.{blank}
 use Rattle.spare.proofs.is_blank.Statement.{statement}
 use Rattle.spare.proofs.is_blank.Tie as tie
 
+slice-aggregate-equal : tie.Need-slice-aggregate-equal
+slice-aggregate-equal c = search needs
+
+equal-requires : tie.Need-equal-requires
+equal-requires c κs = search needs
+
 returns : tie.Need-returns
 unfolding blank
-returns c = sym (same-lengths (c .before .before .args .bytes .now) (ff 16) (c .if1 .taken))
-
-all-erased-requires : tie.Need-all-erased-requires
-all-erased-requires c κs = search needs
-
-returns-2 : tie.Need-returns-2
-unfolding blank
-returns-2 c = c .all-erased .ensures ∙ ap (λ (n : ℕ). same (c .before .before .before .args .bytes .now) (ff n)) (c .before .if1 .left)
+returns c = c .equal .ensures
 
 pub is-blank-spec : {M : Type 1} → statement M
-is-blank-spec = tie.close (tie.spec returns all-erased-requires returns-2)
+is-blank-spec = tie.close (tie.spec slice-aggregate-equal equal-requires returns)
