@@ -59,7 +59,7 @@ pub fn append_log(
     let target = Log {
         bucket,
         first,
-        kind: model::WRITE,
+        kind: model::WRITE_KIND,
         epoch,
         back: b,
         offset,
@@ -93,7 +93,7 @@ pub fn start_log(
         meter,
         z,
         room,
-        model::WRITE,
+        model::WRITE_KIND,
         b,
         offset,
         bytes,

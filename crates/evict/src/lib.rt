@@ -32,7 +32,7 @@ fn put_away(
     ensures { λ _. ⌜ Lent (s .sizes) (now (flash .exit)) (now (spare .exit)) (now (disk .exit)) ⌝ }
 {
     if s.reads.holds(b) {
-        return copying::copy(meter, s, model::DIRTY, b, bytes, flash, spare, disk);
+        return copying::copy(meter, s, model::DIRTY_KIND, b, bytes, flash, spare, disk);
     }
     let z = s.sizes;
     let left = units::write_units(meter, z, b as usize, bytes, flash, spare, disk);

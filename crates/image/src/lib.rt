@@ -66,7 +66,7 @@ pub fn is_write(z: Sizes, c: usize, spare: &[u8]) -> bool
     requires { ⌜ c < z .c ⌝ }
     ensures { λ r. ⌜ r ≡ isWrite z (spareOnly (now (spare .entry))) c ⌝ }
 {
-    spare::kind_at(spare, c * z.p) == model::WRITE
+    spare::kind_at(spare, c * z.p) == model::WRITE_KIND
 }
 
 pub fn is_copy(z: Sizes, c: usize, spare: &[u8]) -> bool
@@ -76,7 +76,7 @@ pub fn is_copy(z: Sizes, c: usize, spare: &[u8]) -> bool
     ensures { λ r. ⌜ r ≡ isCopy z (spareOnly (now (spare .entry))) c ⌝ }
 {
     let kind = spare::kind_at(spare, c * z.p);
-    (kind != spare::NO_KIND) & (kind != model::WRITE)
+    (kind != spare::NO_KIND) & (kind != model::WRITE_KIND)
 }
 
 pub fn is_dirty(z: Sizes, c: usize, spare: &[u8]) -> bool
@@ -84,7 +84,7 @@ pub fn is_dirty(z: Sizes, c: usize, spare: &[u8]) -> bool
     requires { ⌜ c < z .c ⌝ }
     ensures { λ r. ⌜ r ≡ isDirty z (spareOnly (now (spare .entry))) c ⌝ }
 {
-    spare::kind_at(spare, c * z.p) == model::DIRTY
+    spare::kind_at(spare, c * z.p) == model::DIRTY_KIND
 }
 
 pub fn page_blank(z: Sizes, c: usize, k: usize, spare: &[u8]) -> bool

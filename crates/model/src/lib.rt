@@ -1,11 +1,11 @@
 // The plain data that the code and the definitions share.
 
 // The state of a page, its spare byte 0.
-pub const READ: u8 = 1;
+pub const READ_KIND: u8 = 1;
 
-pub const WRITE: u8 = 2;
+pub const WRITE_KIND: u8 = 2;
 
-pub const DIRTY: u8 = 3;
+pub const DIRTY_KIND: u8 = 3;
 
 // The last next epoch at which a write is taken; behind it fewer than two are left.
 pub const LAST_EPOCH: u64 = 4294967294;

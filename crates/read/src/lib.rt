@@ -51,9 +51,9 @@ fn copy_kind(s: State, held: bool, b: u16) -> u8
     ensures { λ r. ⌜ r ≡ (if held || holds b (entriesOf (s .writes)) then dirtyKind else readKind) ⌝ }
 {
     if held | s.writes.holds(b) {
-        model::DIRTY
+        model::DIRTY_KIND
     } else {
-        model::READ
+        model::READ_KIND
     }
 }
 

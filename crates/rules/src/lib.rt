@@ -46,11 +46,11 @@ fn kind_fits(z: Sizes, f: Fields) -> bool
     requires { ⌜ Limits z ⌝ }
     ensures { λ r. ⌜ ((tag : List ℕ) → fields tag ≡ f → r ≡ kindFits z tag) ⌝ }
 {
-    if f.kind == model::WRITE {
+    if f.kind == model::WRITE_KIND {
         return true;
     }
     let spans = (f.offset == 0) & (f.last as usize + 1 == z.p * z.s);
-    (model::READ <= f.kind) & (f.kind <= model::DIRTY) & spans
+    (model::READ_KIND <= f.kind) & (f.kind <= model::DIRTY_KIND) & spans
 }
 
 // Whether a page starts a log that fits.
@@ -121,7 +121,7 @@ fn starts_write(z: Sizes, page: &[u8]) -> bool
     ensures { λ r. ⌜ r ≡ (logFits z (now (page .entry)) && eqb (kind (now (page .entry))) writeKind) ⌝ }
 {
     let f = spare::fields_at(page, 0);
-    log_fits(z, f) & (f.kind == model::WRITE)
+    log_fits(z, f) & (f.kind == model::WRITE_KIND)
 }
 
 // The rules for a page of the bucket of the page before it: it starts a log, or continues one.

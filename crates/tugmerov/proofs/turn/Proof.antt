@@ -18,7 +18,11 @@ slice-aggregate-walk-piece : tie.Need-slice-aggregate-walk-piece
 slice-aggregate-walk-piece c = simp length-take (omega (arith, c .before .before .before .closed .ensures .1))
 
 walk-piece-requires : tie.Need-walk-piece-requires
-walk-piece-requires c κs = (c .before .before .before .before .before .before .before .before .before .before .before .before .before .before .before .before .before .before .pre .0, (simp length-take (omega (arith, c .before .before .before .before .before .before .before .before .before .closed .ensures .1, c .before .before .before .before .before .before .before .before .piece .given, c .before .before .before .before .before .before .before .before .before .before .before .before .before .before .before .before .before .before .pre .1 .0)), omega (arith, c .before .before .before .before .before .before .before .before .before .before .before .before .before .before .before .before .before .before .pre .1 .2), omega (arith, c .before .before .before .before .before .before .before .before .before .before .before .before .before .before .before .before .before .before .pre .1 .2)))
+walk-piece-requires c κs =
+    let start = c .before .before .before .before .before .before .before .before .before .before .before .before .before .before .before .before .before .before in
+    let closed = c .before .before .before .before .before .before .before .before .before .closed in
+    let piece = c .before .before .before .before .before .before .before .before .piece in
+    (start .pre .0, (simp length-take (omega (arith, closed .ensures .1, piece .given, start .pre .1 .0)), omega (arith, start .pre .1 .2), omega (arith, start .pre .1 .2)))
 
 same-length : tie.Need-same-length
 same-length c = search needs
@@ -42,8 +46,10 @@ same-length-7 : tie.Need-same-length-7
 same-length-7 c = search needs
 
 returns : tie.Need-returns
-returns c = let told = c .before .before .before .before .before .before .before .before .before .before .before .before .walk-piece in
-    let bytes = c .before .before .before .before .before .before .before .before .before .before .before .before .before .before .before .before .before .before .before .before .before .before .closed .ensures .0 in
+returns c =
+    let closed = c .before .before .before .before .before .before .before .before .before .before .before .before .before .before .before .before .before .before .before .before .before .before .closed in
+    let told = c .before .before .before .before .before .before .before .before .before .before .before .before .walk-piece in
+    let bytes = closed .ensures .0 in
     let start = c .before .before .before .before .before .before .before .before .before .before .before .before .before .before .before .before .before .before .before .before .before .before .before .before .before .before .before .before .before .before .before in
     (told .ensures .0, (rw bytes at (told .ensures .1 .0), (λ more none. rw (bytes ∙ if-false _ _ more) at (told .ensures .1 .1 none), λ ended none. closed-up (start .args .w) _ _ _ _ _ (start .pre .0 .0 .line-room) (told .result .walk) _ _ _ _ _ _ none (rw (bytes ∙ if-true _ _ ended) at (told .ensures .1 .1 none)))))
 

@@ -24,13 +24,21 @@ loop-holds : tie.Need-loop-holds Inv-loop μ-loop
 loop-holds c = (set-out _ (c .before .before .before .before .before .before .before .args .w) _ _ _ _ _ _ (c .before .before .before .before .before .before .before .pre .0 .0), refl, refl, refl, refl, refl, refl)
 
 advance-requires : tie.Need-advance-requires Inv-loop μ-loop
-advance-requires c κs = (c .before .before .before .before .before .before .before .before .before .before .loop .inv .0 .sound, (c .before .before .before .before .before .before .before .before .if1 .taken, omega (arith, eqb-true (c .before .before .before .before .before .before .before .before .before .before .loop .walk .printed) 0 (c .before .before .before .before .before .before .if2 .taken), c .before .before .before .before .before .before .before .before .before .before .loop .inv .6, c .before .before .before .before .before .before .before .before .before .before .before .before .before .before .before .before .before .before .pre .1)))
+advance-requires c κs =
+    let loop = c .before .before .before .before .before .before .before .before .before .before .loop in
+    let if1 = c .before .before .before .before .before .before .before .before .if1 in
+    let start = c .before .before .before .before .before .before .before .before .before .before .before .before .before .before .before .before .before .before in
+    (loop .inv .0 .sound, (if1 .taken, omega (arith, eqb-true (loop .walk .printed) 0 (c .before .before .before .before .before .before .if2 .taken), loop .inv .6, start .pre .1)))
 
 slice-reshare-prefix-write-out : tie.Need-slice-reshare-prefix-write-out Inv-loop μ-loop
-slice-reshare-prefix-write-out c = c .before .before .before .before .before .before .before .before .before .before .before .before .advance .ensures .1 .0 .printed-room
+slice-reshare-prefix-write-out c =
+    let advance = c .before .before .before .before .before .before .before .before .before .before .before .before .advance in
+    advance .ensures .1 .0 .printed-room
 
 slice-aggregate-write-out : tie.Need-slice-aggregate-write-out Inv-loop μ-loop
-slice-aggregate-write-out c = simp length-take (omega (arith, c .before .before .before .before .before .before .before .before .before .before .before .before .before .advance .ensures .1 .0 .printed-room))
+slice-aggregate-write-out c =
+    let advance = c .before .before .before .before .before .before .before .before .before .before .before .before .before .advance in
+    simp length-take (omega (arith, advance .ensures .1 .0 .printed-room))
 
 write-out-requires : tie.Need-write-out-requires Inv-loop μ-loop
 write-out-requires c κs = search needs
@@ -39,15 +47,28 @@ sub-walk : tie.Need-sub-walk Inv-loop μ-loop
 sub-walk c = omega (arith, simp length-take at (c .write-out .ensures))
 
 add-written : tie.Need-add-written Inv-loop μ-loop
-add-written c = omega (arith, simp length-take at (c .write-out .ensures), c .before .before .before .before .before .before .before .before .before .before .before .before .before .before .before .before .before .before .before .before .before .before .before .before .before .loop .inv .0 .few, c .before .before .before .before .before .before .before .before .before .before .before .before .before .before .before .before .before .before .before .before .before .before .before .before .before .loop .inv .0 .inside, c .before .before .before .before .before .before .before .before .before .before .before .before .before .before .advance .ensures .1 .0 .printed-room, c .before .before .before .out .given, c .before .before .before .before .before .before .before .before .before .before .before .before .before .before .before .before .before .before .before .before .before .before .before .before .before .loop .inv .6, c .before .before .before .before .before .before .before .before .before .before .before .before .before .before .before .before .before .before .before .before .before .before .before .before .before .before .before .before .before .before .before .before .before .pre .1)
+add-written c =
+    let loop = c .before .before .before .before .before .before .before .before .before .before .before .before .before .before .before .before .before .before .before .before .before .before .before .before .before .loop in
+    let advance = c .before .before .before .before .before .before .before .before .before .before .before .before .before .before .advance in
+    let start = c .before .before .before .before .before .before .before .before .before .before .before .before .before .before .before .before .before .before .before .before .before .before .before .before .before .before .before .before .before .before .before .before .before in
+    omega (arith, simp length-take at (c .write-out .ensures), loop .inv .0 .few, loop .inv .0 .inside, advance .ensures .1 .0 .printed-room, c .before .before .before .out .given, loop .inv .6, start .pre .1)
 
 loop-less : tie.Need-loop-less Inv-loop μ-loop
-loop-less c = omega (arith, c .before .before .before .before .before .before .before .before .before .before .before .before .before .before .advance .ensures .1 .1, c .before .before .before .before .before .before .before .before .before .before .before .before .before .before .advance .ensures .1 .2, c .before .before .before .before .before .before .before .before .before .before .before .before .before .before .before .before .before .before .before .before .before .before .before .if1 .taken)
+loop-less c =
+    let advance = c .before .before .before .before .before .before .before .before .before .before .before .before .before .before .advance in
+    let if1 = c .before .before .before .before .before .before .before .before .before .before .before .before .before .before .before .before .before .before .before .before .before .before .before .if1 in
+    omega (arith, advance .ensures .1 .1, advance .ensures .1 .2, if1 .taken)
 
 loop-again : tie.Need-loop-again Inv-loop μ-loop
-loop-again c = let l = c .before .before .before .before .before .before .before .before .before .before .before .before .before .before .before .before .before .before .before .before .before .before .before .before .before .loop in
+loop-again c =
+    let if2 = c .before .before .before .before .before .before .before .before .before .before .before .before .before .before .before .before .before .before .before .before .before .if2 in
+    let start = c .before .before .before .before .before .before .before .before .before .before .before .before .before .before .before .before .before .before .before .before .before .before .before .before .before .before .before .before .before .before .before .before .before in
+    let line = c .before .before .before .before .before .before .before .before .before .before .before .before .before .line in
+    let buffer = c .before .before .before .before .before .before .before .before .before .before .before .buffer in
+    let flash = c .before .before .before .before .before .before .before .before .before .flash in
+    let l = c .before .before .before .before .before .before .before .before .before .before .before .before .before .before .before .before .before .before .before .before .before .before .before .before .before .loop in
     let a = c .before .before .before .before .before .before .before .before .before .before .before .before .before .before .advance in
-    (along _ _ (l .walk) _ _ _ _ _ _ (l .written) (l .inv .0) (eqb-true (l .walk .printed) 0 (c .before .before .before .before .before .before .before .before .before .before .before .before .before .before .before .before .before .before .before .before .before .if2 .taken)) (a .result) _ _ _ _ _ _ (a .ensures .1 .0) (a .ensures .1 .1) (a .ensures .1 .2) (a .ensures .0) (omega (arith, c .before .before .before .out .given, l .inv .6, c .before .before .before .before .before .before .before .before .before .before .before .before .before .before .before .before .before .before .before .before .before .before .before .before .before .before .before .before .before .before .before .before .before .pre .1 .2)) (c .write-out .result) (omega (arith, simp length-take at (c .write-out .ensures))), omega (arith, c .before .before .before .before .before .before .before .before .before .before .before .before .before .line .given, l .inv .1), omega (arith, c .before .before .before .before .before .before .before .before .before .before .before .buffer .given, l .inv .2), omega (arith, c .before .before .before .before .before .before .before .before .before .flash .given, l .inv .3), omega (arith, c .before .before .before .before .before .before .before .spare .given, l .inv .4), omega (arith, c .before .before .before .before .before .disk .given, l .inv .5), omega (arith, c .before .before .before .out .given, l .inv .6))
+    (along _ _ (l .walk) _ _ _ _ _ _ (l .written) (l .inv .0) (eqb-true (l .walk .printed) 0 (if2 .taken)) (a .result) _ _ _ _ _ _ (a .ensures .1 .0) (a .ensures .1 .1) (a .ensures .1 .2) (a .ensures .0) (omega (arith, c .before .before .before .out .given, l .inv .6, start .pre .1 .2)) (c .write-out .result) (omega (arith, simp length-take at (c .write-out .ensures))), omega (arith, line .given, l .inv .1), omega (arith, buffer .given, l .inv .2), omega (arith, flash .given, l .inv .3), omega (arith, c .before .before .before .before .before .before .before .spare .given, l .inv .4), omega (arith, c .before .before .before .before .before .disk .given, l .inv .5), omega (arith, c .before .before .before .out .given, l .inv .6))
 
 same-length : tie.Need-same-length Inv-loop μ-loop
 same-length c = c .before .before .before .before .loop .inv .1

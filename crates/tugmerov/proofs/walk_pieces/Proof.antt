@@ -25,20 +25,40 @@ read-piece-requires : tie.Need-read-piece-requires Inv-loop μ-loop
 read-piece-requires c κs = search needs
 
 turn-requires : tie.Need-turn-requires Inv-loop μ-loop
-turn-requires c κs = let inv = c .before .before .before .before .before .before .before .before .before .before .before .before .before .loop .inv in ((inv .0 .sound, inv .0 .on (c .before .before .before .before .before .before .before .before .before .before .before .before .loop-test .taken) .1), (omega (arith, c .before .before .before .before .before .before .before .before .piece .given, inv .1, c .before .before .before .before .before .before .before .before .before .before .before .before .before .before .before .before .before .before .before .before .before .pre .1 .0), omega (arith, c .before .before .before .before .before .before .before .before .before .read-piece .ensures .0, c .before .before .before .before .before .before .before .before .piece .given, inv .1, c .before .before .before .before .before .before .before .before .before .before .before .before .before .before .before .before .before .before .before .before .before .pre .1 .0), omega (arith, inv .7, c .before .before .before .before .before .before .before .before .before .before .before .before .before .before .before .before .before .before .before .before .before .pre .1 .1)))
+turn-requires c κs =
+    let loop = c .before .before .before .before .before .before .before .before .before .before .before .before .before .loop in
+    let loop-test = c .before .before .before .before .before .before .before .before .before .before .before .before .loop-test in
+    let piece = c .before .before .before .before .before .before .before .before .piece in
+    let start = c .before .before .before .before .before .before .before .before .before .before .before .before .before .before .before .before .before .before .before .before .before in
+    let read-piece = c .before .before .before .before .before .before .before .before .before .read-piece in
+    let inv = loop .inv in ((inv .0 .sound, inv .0 .on (loop-test .taken) .1), (omega (arith, piece .given, inv .1, start .pre .1 .0), omega (arith, read-piece .ensures .0, piece .given, inv .1, start .pre .1 .0), omega (arith, inv .7, start .pre .1 .1)))
 
 sub-turns : tie.Need-sub-turns Inv-loop μ-loop
-sub-turns c = ltb-true 0 (c .before .before .before .before .before .before .before .before .before .before .before .before .before .before .before .before .before .before .before .before .before .before .before .before .before .before .before .before .before .before .before .loop .turns) (c .before .before .before .before .before .before .before .before .before .before .before .before .before .before .before .before .before .before .before .before .before .before .before .before .before .before .before .before .before .if1 .taken)
+sub-turns c =
+    let loop = c .before .before .before .before .before .before .before .before .before .before .before .before .before .before .before .before .before .before .before .before .before .before .before .before .before .before .before .before .before .before .before .loop in
+    let if1 = c .before .before .before .before .before .before .before .before .before .before .before .before .before .before .before .before .before .before .before .before .before .before .before .before .before .before .before .before .before .if1 in
+    ltb-true 0 (loop .turns) (if1 .taken)
 
 loop-less : tie.Need-loop-less Inv-loop μ-loop
-loop-less c = omega (arith, ltb-true 0 (c .before .before .before .before .before .before .before .before .before .before .before .before .before .before .before .before .before .before .before .before .before .before .before .before .before .before .before .before .before .before .before .loop .turns) (c .before .before .before .before .before .before .before .before .before .before .before .before .before .before .before .before .before .before .before .before .before .before .before .before .before .before .before .before .before .if1 .taken))
+loop-less c =
+    let loop = c .before .before .before .before .before .before .before .before .before .before .before .before .before .before .before .before .before .before .before .before .before .before .before .before .before .before .before .before .before .before .before .loop in
+    let if1 = c .before .before .before .before .before .before .before .before .before .before .before .before .before .before .before .before .before .before .before .before .before .before .before .before .before .before .before .before .before .if1 in
+    omega (arith, ltb-true 0 (loop .turns) (if1 .taken))
 
 loop-again : tie.Need-loop-again Inv-loop μ-loop
-loop-again c = let l = c .before .before .before .before .before .before .before .before .before .before .before .before .before .before .before .before .before .before .before .before .before .before .before .before .before .before .before .before .before .before .before .loop in
+loop-again c =
+    let loop-test = c .before .before .before .before .before .before .before .before .before .before .before .before .before .before .before .before .before .before .before .before .before .before .before .before .before .before .before .before .before .before .loop-test in
+    let piece2 = c .before .before .before .before .before .before .before .before .before .before .before .before .before .before .before .before .piece2 in
+    let piece = c .before .before .before .before .before .before .before .before .before .before .before .before .before .before .before .before .before .before .before .before .before .before .before .before .before .before .piece in
+    let line = c .before .before .before .before .before .before .before .before .before .before .before .before .before .before .line in
+    let buffer = c .before .before .before .before .before .before .before .before .before .before .before .before .buffer in
+    let flash = c .before .before .before .before .before .before .before .before .before .before .flash in
+    let spare = c .before .before .before .before .before .before .before .before .spare in
+    let l = c .before .before .before .before .before .before .before .before .before .before .before .before .before .before .before .before .before .before .before .before .before .before .before .before .before .before .before .before .before .before .before .loop in
     let got = c .before .before .before .before .before .before .before .before .before .before .before .before .before .before .before .before .before .before .before .before .before .before .before .before .before .before .before .read-piece in
     let told = c .before .before .before .before .before .before .before .before .before .before .before .before .before .before .before .before .before .turn in
-    let on = l .inv .0 .on (c .before .before .before .before .before .before .before .before .before .before .before .before .before .before .before .before .before .before .before .before .before .before .before .before .before .before .before .before .before .before .loop-test .taken) in
-    (going _ (l .walk) _ _ _ _ _ (l .inv .0 .reached (on .0) (on .1)) (got .result .count) (got .result .ended) (got .ensures .1) (told .result .walk) _ _ _ _ _ _ (told .ensures .0) (take (got .result .count) (got .last .0)) (told .result .written) (told .ensures .1 .1 .0) (told .ensures .1 .1 .1), omega (arith, c .before .before .before .before .before .before .before .before .before .before .before .before .before .before .before .before .piece2 .given, c .before .before .before .before .before .before .before .before .before .before .before .before .before .before .before .before .before .before .before .before .before .before .before .before .before .before .piece .given, l .inv .1), omega (arith, c .before .before .before .before .before .before .before .before .before .before .before .before .before .before .line .given, l .inv .2), omega (arith, c .before .before .before .before .before .before .before .before .before .before .before .before .buffer .given, l .inv .3), omega (arith, c .before .before .before .before .before .before .before .before .before .before .flash .given, l .inv .4), omega (arith, c .before .before .before .before .before .before .before .before .spare .given, l .inv .5), omega (arith, c .before .before .before .before .before .before .disk .given, l .inv .6), omega (arith, c .before .before .before .before .out .given, l .inv .7))
+    let on = l .inv .0 .on (loop-test .taken) in
+    (going _ (l .walk) _ _ _ _ _ (l .inv .0 .reached (on .0) (on .1)) (got .result .count) (got .result .ended) (got .ensures .1) (told .result .walk) _ _ _ _ _ _ (told .ensures .0) (take (got .result .count) (got .last .0)) (told .result .written) (told .ensures .1 .1 .0) (told .ensures .1 .1 .1), omega (arith, piece2 .given, piece .given, l .inv .1), omega (arith, line .given, l .inv .2), omega (arith, buffer .given, l .inv .3), omega (arith, flash .given, l .inv .4), omega (arith, spare .given, l .inv .5), omega (arith, c .before .before .before .before .before .before .disk .given, l .inv .6), omega (arith, c .before .before .before .before .out .given, l .inv .7))
 
 same-length : tie.Need-same-length Inv-loop μ-loop
 same-length c = c .before .before .loop .inv .1
