@@ -150,6 +150,9 @@ pub fn are_blank(spare: &[u8], page: usize, n: usize) -> bool
     requires { ⌜ (page + n) * 16 ≤ length (now spare) ⌝ }
     ensures { λ r. ⌜ r ≡ allBelow n (blankFrom (now (spare .entry)) page) ⌝ }
 {
+    if n == 0 {
+        return true;
+    }
     let start = page * 16;
     let end = (page + n) * 16;
     all_erased(&spare[start..end])
