@@ -8,7 +8,7 @@ use lib.ListN.{length, take, drop, getD, getD-replicate, take-append-drop}
 use lib.Seq.{ext-getD, drop-drop}
 use lib.Dec.{eqb}
 use Rattle.lists.specs.Lists.{all, allBelow, part, same, ff}
-use Rattle.lists.proofs.Tests.{same-truth}
+use Rattle.lists.proofs.Tests.{and-left, and-right, and-true, same-truth}
 use Rattle.lists.proofs.Arrays.{all-append}
 use Rattle.lists.proofs.Rows.{all-below, below-all}
 use Rattle.lists.proofs.Parts.{getD-part, length-part-fits, length-ff, part-ff}
@@ -42,6 +42,20 @@ erased-more l i n h =
     ap (all isErased) (sym (take-append-drop n (drop i l)))
     ∙ all-append isErased (take n (drop i l)) (drop n (drop i l))
     ∙ rw (here, drop-drop n i l)
+
+-- a run that is compared up to i, and from an earlier place on to its end
+pub erased-ends : (l : List ℕ) (i last : ℕ) (alike : Bool) → last ≤ i → i ≤ length l → (alike && all isErased (drop i l)) ≡ all isErased l
+    → (alike && all isErased (drop last l)) ≡ all isErased l
+erased-ends l i last alike low high inv = same-truth _ _
+    (λ h.
+    let n : last + (i - last) ≡ i = omega arith in
+    let behind = sym (erased-more l last (i - last) (omega arith)) ∙ and-right alike (all isErased (drop last l)) h in
+    let here : all isErased (drop i l) ≡ true = rw n at (and-right (same (part l last (i - last)) (ff (i - last))) (all isErased (drop (last + (i - last)) l)) behind) in
+    sym inv ∙ and-true (and-left alike (all isErased (drop last l)) h) here)
+    (λ h.
+    let start = sym (erased-more l 0 last (omega arith)) ∙ h in
+    let none : 0 + last ≡ last = omega arith in
+    and-true (and-left alike (all isErased (drop i l)) (inv ∙ h)) (rw none at (and-right (same (part l 0 last) (ff last)) (all isErased (drop (0 + last) l)) start)))
 
 -- page by page
 pub run-pages : (spare : List ℕ) (page n : ℕ) → (page + n) * 16 ≤ length spare

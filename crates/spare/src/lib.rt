@@ -128,21 +128,35 @@ pub fn is_blank(bytes: &[u8]) -> bool
     )
 }
 
-// The same of pages one behind the other, compared with the fixed string eight at a time: few wide compares.
-fn all_erased(bytes: &[u8]) -> bool
+// The same of eight pages or more, one behind the other, compared with the fixed string eight at a time: few wide compares.
+// The last eight may be compared in part once more, so that no page is left to be compared by itself.
+fn eights_erased(bytes: &[u8]) -> bool
+    requires { ⌜ 128 ≤ length (now bytes) ⌝ }
     ensures { λ r. ⌜ r ≡ same (now (bytes .entry)) (ff (length (now (bytes .entry)))) ⌝ }
 {
     let erased = [255u8; 128];
+    let last = bytes.len() - 128;
     let mut alike = true;
     let mut i = 0;
-    while 128 <= bytes.len() - i {
+    while i < last {
         let end = i + 128;
         let eight = equal(&bytes[i..end], &erased);
         alike = alike & eight;
         i = end;
     }
-    let rest = bytes.len() - i;
-    alike & equal(&bytes[i..], &erased[..rest])
+    alike & equal(&bytes[last..], &erased)
+}
+
+// The same of any number of pages.
+fn all_erased(bytes: &[u8]) -> bool
+    ensures { λ r. ⌜ r ≡ same (now (bytes .entry)) (ff (length (now (bytes .entry)))) ⌝ }
+{
+    let size = bytes.len();
+    if 128 <= size {
+        return eights_erased(bytes);
+    }
+    let erased = [255u8; 128];
+    equal(bytes, &erased[..size])
 }
 
 // Whether n pages of the spare area are all blank, from this page on.
