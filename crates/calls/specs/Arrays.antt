@@ -17,6 +17,10 @@ pub record Arrays (flash spare disk : List ℕ) : Type 0 where
   pub spare-length : length spare ≡ 32768
   pub disk-length : length disk ≡ 16384
 
+-- the most bytes that a line may ask for: its length field has two bytes
+abbrev pub mostRead : ℕ
+mostRead = 65535
+
 -- sizes within their limits whose parts lie in the arrays
 pub record Held (z : Sizes) : Type 0 where
   pub limits : Limits z

@@ -15,7 +15,7 @@ ghost use Rattle.geometry.specs.Geometry.{device};
 ghost use Rattle.state.specs.View.{viewOf};
 ghost use Rattle.outcome.specs.Handed.{handedBack, handed};
 ghost use Rattle.frame.specs.Request.{requestOf};
-ghost use Rattle.calls.specs.Arrays.{Arrays, Held, inArrays, seen};
+ghost use Rattle.calls.specs.Arrays.{Arrays, mostRead, Held, inArrays, seen};
 
 // What the entry handed back, and how many bytes of the lent buffer are the call's own.
 pub struct Made {
@@ -89,7 +89,7 @@ fn write_call(
     spare: &mut [u8],
     disk: &mut [u8],
 ) -> Outcome
-    requires { ⌜ (bucket < 65536) × (lineFits (now line) ≡ true) × (65535 ≤ length (now buffer)) ⌝ }
+    requires { ⌜ (bucket < 65536) × (lineFits (now line) ≡ true) × (mostRead ≤ length (now buffer)) ⌝ }
     requires { ⌜ placed .length ≡ length (drop (placed .at) (bytesOf (now line))) ⌝ }
     ensures { λ r. ⌜ handedBack (device (now (flash .exit)) (now (spare .exit)) (now (disk .exit))) [] r ≡ handed s (call allowance (writeCall bucket offset (drop (placed .at) (bytesOf (now (line .entry))))) (viewOf s) (device (now (flash .entry)) (now (spare .entry)) (now (disk .entry)))) ⌝ }
 {
@@ -120,7 +120,7 @@ fn make(
     disk: &mut [u8],
 ) -> Made
     requires { ⌜ (lineFits (now line) ≡ true) × (request ≡ requestOf (now line)) ⌝ }
-    requires { ⌜ 65535 ≤ length (now buffer) ⌝ }
+    requires { ⌜ mostRead ≤ length (now buffer) ⌝ }
     ensures { λ r. ⌜ seen (handedBack (device (now (flash .exit)) (now (spare .exit)) (now (disk .exit))) (take (r .read) (now (buffer .exit))) (r .outcome)) ≡ seen (handed s (call (allowance (bytesOf (now (line .entry)))) (callOf z (bytesOf (now (line .entry)))) (viewOf s) (device (now (flash .entry)) (now (spare .entry)) (now (disk .entry))))) ⌝ }
     ensures { λ r. ⌜ r .read ≡ length (lentBuffer (callOf z (bytesOf (now (line .entry))))) ⌝ }
 {
@@ -188,7 +188,7 @@ pub fn make_in_arrays(
     disk: &mut [u8],
 ) -> Made
     requires { ⌜ (lineFits (now line) ≡ true) × (request ≡ requestOf (now line)) ⌝ }
-    requires { ⌜ 65535 ≤ length (now buffer) ⌝ }
+    requires { ⌜ mostRead ≤ length (now buffer) ⌝ }
     requires { ⌜ Arrays (now flash) (now spare) (now disk) × Held z ⌝ }
     ensures { λ r. ⌜ seen (handedBack (device (now (flash .exit)) (now (spare .exit)) (now (disk .exit))) (take (r .read) (now (buffer .exit))) (r .outcome)) ≡ seen (inArrays z (device (now (flash .entry)) (now (spare .entry)) (now (disk .entry))) (handed s (call (allowance (bytesOf (now (line .entry)))) (callOf z (bytesOf (now (line .entry)))) (viewOf s) (lend z (device (now (flash .entry)) (now (spare .entry)) (now (disk .entry))))))) ⌝ }
     ensures { λ r. ⌜ r .read ≡ length (lentBuffer (callOf z (bytesOf (now (line .entry))))) ⌝ }

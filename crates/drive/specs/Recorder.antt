@@ -12,7 +12,7 @@ use Rattle.geometry.specs.Geometry.{device}
 use Rattle.state.specs.declared.State.{State as Struct}
 use Rattle.state.specs.View.{viewOf}
 use Rattle.outcome.specs.Handed.{Handed}
-use Rattle.calls.specs.Arrays.{Held}
+use Rattle.calls.specs.Arrays.{mostRead, Held}
 use Rattle.drive.specs.declared.Recorder.{Recorder as RecorderStruct}
 use Rattle.drive.specs.declared.Printed.{Printed as PrintedStruct}
 
@@ -31,10 +31,7 @@ outcomeOf h = record { answer = h .outcome .answer; stores = h .outcome .stores;
 abbrev pub Ready : (formatted : Bool) → Sizes → Type 0
 Ready formatted z = formatted ≡ true → Held z
 
--- the most bytes that a line may ask for, and the longest text: answer, stores and 16,384 bytes read, two digits each, and a line feed
-abbrev pub mostRead : ℕ
-mostRead = 65535
-
+-- the longest text of a line: answer, stores and 16,384 bytes read, two digits each, and a line feed
 abbrev pub longestText : ℕ
 longestText = 32775
 

@@ -4,8 +4,8 @@ use mathlib.Core.Path.{_≡_}
 use mathlib.Core.List.{List, [], _∷_, _++_}
 use lib.ListN.{length, take}
 use Rattle.model.specs.Driving.{linesFrom, onLines}
-use Rattle.calls.specs.Arrays.{Arrays}
-use Rattle.drive.specs.Recorder.{mostRead, recorderOf, Ready}
+use Rattle.calls.specs.Arrays.{Arrays, mostRead}
+use Rattle.drive.specs.Recorder.{recorderOf, Ready}
 use Rattle.input.specs.declared.Walk.{Walk}
 
 -- the bytes that are held of a line: one more than the longest that is no F0
