@@ -1,0 +1,56 @@
+// The form of a state: its bytes, in which a program may keep it, and back.
+mod read;
+mod write;
+
+use state::State;
+ghost use mathlib.Core.Path.{_≡_};
+ghost use mathlib.Core.Bool.{_&&_};
+ghost use Prim.Native.Nat.{_≤_};
+ghost use lib.ListN.{length};
+ghost use lib.Dec.{leb};
+ghost use Rattle.lists.specs.Lists.{if_then_else_, splice};
+ghost use Rattle.model.specs.State.{unformatted};
+ghost use Rattle.state.specs.View.{viewOf, stateOf};
+ghost use Rattle.form.specs.Form.{formOf, hasForm, isForm, stateIn};
+
+// The state's form at the start of `out`, and its length; 0 where it has none, or none that has room there.
+pub fn state_bytes(s: State, out: &mut [u8]) -> usize
+    ensures { λ r. ⌜ r ≡ (if hasForm (viewOf s) && leb (length (formOf (viewOf s))) (length (now (out .entry))) then length (formOf (viewOf s)) else 0) ⌝ }
+    ensures { λ r. ⌜ now (out .exit) ≡ (if hasForm (viewOf s) && leb (length (formOf (viewOf s))) (length (now (out .entry))) then splice (now (out .entry)) 0 (formOf (viewOf s)) else now (out .entry)) ⌝ }
+    ensures { λ r. ⌜ r ≤ length (now (out .exit)) ⌝ }
+{
+    if !write::has_form(s) {
+        return 0;
+    }
+    let size = write::form_size(s);
+    if out.len() < size {
+        return 0;
+    }
+    write::put_state(s, out);
+    size
+}
+
+// Whether the bytes are the form of a state.
+pub fn is_form(bytes: &[u8]) -> bool
+    ensures { λ r. ⌜ r ≡ isForm (now (bytes .entry)) ⌝ }
+{
+    if bytes.len() < 19 {
+        return false;
+    }
+    let mark = read::number_at(bytes, 9, 1);
+    let writes = read::behind(bytes, 19, 1, 3, 64);
+    let gc = read::behind(bytes, writes, 1, 4, 64);
+    let free = read::behind(bytes, gc, 2, 1, 256);
+    let end = read::behind(bytes, free, 2, 1, 256);
+    (mark <= 1) & (end == bytes.len())
+}
+
+// The state whose form the bytes are; one that was never formatted where they are none.
+pub fn state_of(bytes: &[u8]) -> State
+    ensures { λ r. ⌜ r ≡ (if isForm (now (bytes .entry)) then stateOf (stateIn (now (bytes .entry))) else stateOf unformatted) ⌝ }
+{
+    if !is_form(bytes) {
+        return State::unformatted();
+    }
+    read::state_in(bytes)
+}
