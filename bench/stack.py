@@ -57,7 +57,7 @@ Instruction = collections.namedtuple("Instruction", "place name operands symbol"
 
 def build(folder):
     """The library of the callers, over the repository's crates as they are proved there."""
-    rt("check", "script", folder=ROOT)
+    rt("check", "calls", folder=ROOT)
     os.makedirs(os.path.join(folder, "crates", "entries", "src"))
     os.makedirs(os.path.join(folder, "target"))
     crates = [os.path.join("crates", name) for name in os.listdir(os.path.join(ROOT, "crates"))]
@@ -66,7 +66,7 @@ def build(folder):
     with open(os.path.join(ROOT, "crates.txt"), encoding="utf-8") as file:
         listed = file.read()
     write(os.path.join(folder, "crates.txt"), f"{listed}\nentries: format erasestep read write drain recover "
-                                              "script outcome state queue fifo model lists\n")
+                                              "outcome state queue fifo model lists\n")
     write(os.path.join(folder, "crates", "entries", "src", "lib.rt"), callers())
     rt("staticlib", "entries", folder=folder)
     return os.path.join(folder, "target", "staticlib", "libentries.a")

@@ -1,5 +1,6 @@
 // The restart: recovery cut after every number of stores, then every back-end bucket read.
 use crate::plain;
+use crate::row;
 use crate::run;
 use crate::run::Run;
 use model::Sizes;
@@ -80,8 +81,8 @@ fn read_bucket(
     spare: &mut [u8],
     disk: &mut [u8],
 ) -> Read {
-    let mut bytes = script::data_of(0);
-    let n = script::length_of(z, [b'R', 0, 0, 0, (z.p % 256) as u8, 0]);
+    let mut bytes = row::data_of(0);
+    let n = row::length_of(z, [b'R', 0, 0, 0, (z.p % 256) as u8, 0]);
     read_into(s, plain, b, &mut bytes[..n], flash, spare, disk)
 }
 

@@ -1,7 +1,9 @@
-// Calls cut after every number of stores, then recoveries cut after every number of stores, on chips of several sizes.
+// Calls cut after every number of stores, then recoveries cut after every number of stores, on chips of several sizes; and a length that no
+// workbench line can say.
 mod back;
 mod cuts;
 mod plain;
+mod row;
 mod run;
 
 use model::Sizes;
@@ -67,9 +69,32 @@ fn four_pages() {
     cuts::cut_all(z, &mut flash, &mut spare, &mut disk);
 }
 
+// A queue whose length says more than its array has places for, which no form of a state can: number 5.
+fn beyond_places() {
+    let z = Sizes {
+        s: 4,
+        p: 1,
+        c: 3,
+        b: 1,
+        r: 1,
+        w: 1,
+    };
+    let mut flash = [0u8; 12];
+    let mut spare = [0u8; 48];
+    let mut disk = [0u8; 4];
+    let run = run::mixed(z, &mut flash, &mut spare, &mut disk);
+    let mut state = run.state;
+    state.reads.len = 1000;
+    let o = drain::drain(state, 99, &mut flash, &mut spare, &mut disk);
+    let reply = o.answer;
+    let line = [run::letter(reply), b'0' + run::number(reply) % 10, b'\n'];
+    io::write_all(1, &line);
+}
+
 fn main() {
     one_page();
     two_pages();
     odd_pages();
     four_pages();
+    beyond_places();
 }

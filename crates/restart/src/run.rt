@@ -1,5 +1,6 @@
 // A list under way: the engine's state, the plain disk beside it, and what the last call answered.
 use crate::plain;
+use crate::row;
 use model::Answer;
 use model::Sizes;
 use state::State;
@@ -41,6 +42,14 @@ pub fn letter(answer: Answer) -> u8 {
     }
 }
 
+// The number of a refusal, 0 for any other answer.
+pub fn number(answer: Answer) -> u8 {
+    match answer {
+        Answer::Refused(number) => number,
+        _ => 0,
+    }
+}
+
 // Only a Done write changes the plain disk.
 fn plain_after(plain: [u8; 256], answer: u8, call: [u8; 6], bytes: &[u8]) -> [u8; 256] {
     if (answer == b'D') & (call[0] == b'W') {
@@ -60,7 +69,7 @@ fn make_call(
     disk: &mut [u8],
 ) -> Run {
     let s = run.state;
-    let o = script::make(s, z, call, bytes, flash, spare, disk);
+    let o = row::make(s, z, call, bytes, flash, spare, disk);
     let reply = o.answer;
     let answer = letter(reply);
     let before = run.plain;
@@ -84,8 +93,8 @@ pub fn make_row(
     spare: &mut [u8],
     disk: &mut [u8],
 ) -> Run {
-    let mut bytes = script::data_of(i);
-    let n = script::length_of(z, call);
+    let mut bytes = row::data_of(i);
+    let n = row::length_of(z, call);
     make_call(run, z, call, &mut bytes[..n], flash, spare, disk)
 }
 

@@ -1,4 +1,4 @@
-// A call as a row of bytes, made on lent areas: how programs list calls for chips of several sizes.
+// A call as a row of bytes, made on lent areas: how the program lists calls for chips of several sizes.
 use model::Sizes;
 use outcome::Outcome;
 use state::State;
@@ -31,7 +31,7 @@ pub fn length_of(z: Sizes, call: [u8; 6]) -> usize
     at_most_64(pages * page + rest)
 }
 
-// F format, R read, W write, E erase step, D drain, V recover; then the allowance of stores, the back-end bucket, the offset, and the length.
+// F format, R read, W write, D drain; then the allowance of stores, the back-end bucket, the offset, and the length.
 pub fn make(
     s: State,
     z: Sizes,
@@ -49,8 +49,6 @@ pub fn make(
         b'F' => format::format(s, z, allowance, flash, spare, disk),
         b'R' => read::read(s, b, offset, bytes, allowance, flash, spare, disk),
         b'W' => write::write(s, b, offset, bytes, allowance, flash, spare, disk),
-        b'E' => erasestep::erase_step(s, allowance, flash, spare, disk),
-        b'D' => drain::drain(s, allowance, flash, spare, disk),
-        _ => recover::recover(s, z, allowance, flash, spare, disk),
+        _ => drain::drain(s, allowance, flash, spare, disk),
     }
 }

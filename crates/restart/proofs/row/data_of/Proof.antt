@@ -2,8 +2,8 @@ use borrow.Author.Needs.{needs}
 use Prim.Native.Nat.{_≤_, _-_}
 use mathlib.Core.Path.{_≡_}
 use lib.ListN.{length}
-use Rattle.script.proofs.data_of.Statement.{statement}
-use Rattle.script.proofs.data_of.Tie as tie
+use Rattle.restart.proofs.row.data_of.Statement.{statement}
+use Rattle.restart.proofs.row.data_of.Tie as tie
 
 abbrev Inv-loop : tie.InvT-loop
 Inv-loop i bytes₀ k₀ bytes k = (k ≤ 64) × (length bytes ≡ 64)

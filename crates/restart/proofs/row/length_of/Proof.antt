@@ -1,8 +1,8 @@
 use native.Mathlib.Nat.{mul-le-mul}
 use native.Mathlib.Omega.{arith}
 use borrow.Author.Needs.{needs}
-use Rattle.script.proofs.length_of.Statement.{statement}
-use Rattle.script.proofs.length_of.Tie as tie
+use Rattle.restart.proofs.row.length_of.Statement.{statement}
+use Rattle.restart.proofs.row.length_of.Tie as tie
 
 at-most-64-requires : tie.Need-at-most-64-requires
 at-most-64-requires c κs = search needs
