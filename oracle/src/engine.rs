@@ -30,7 +30,7 @@ pub enum Answer {
 }
 
 impl Answer {
-    pub fn byte(self) -> u8 {
+    pub const fn byte(self) -> u8 {
         match self {
             Answer::Done => 0x00,
             Answer::Idle => 0x10,

@@ -6,16 +6,22 @@ mod distinct;
 pub mod drive;
 pub mod engine;
 mod fits;
+mod form;
+mod frame;
+mod lines;
 pub mod list;
 pub mod merge;
 mod operations;
 mod order;
+mod recorder;
 pub mod recover;
+mod request;
 pub mod sizes;
 pub mod spare;
 pub mod state;
 mod steps;
 pub mod survey;
+pub mod workbench;
 
 #[cfg(test)]
 mod tests;

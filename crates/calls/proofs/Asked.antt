@@ -1,39 +1,33 @@
 -- What a request says of the line that asks for it.
 use mathlib.Core.Path.{_≡_, refl, ap, _∙_}
-use mathlib.Core.Bool.{Bool, true, false, not}
+use mathlib.Core.Bool.{Bool, true, false}
 use mathlib.Core.List.{List}
-use Prim.Native.Nat.{ℕ, _+_, _<_, _≤_}
+use Prim.Native.Nat.{ℕ, _+_, _<_}
 use native.Mathlib.Omega.{arith}
-use borrow.Author.Tests.{leb-true}
-use lib.ListN.{length, drop, length-drop}
+use lib.ListN.{length, drop}
 use lib.Dec.{eqb}
-use Rattle.lists.specs.Lists.{if_then_else_}
-use Rattle.lists.proofs.Tests.{every-at}
+use Rattle.lists.specs.Lists.{if_then_else_, all}
 use Rattle.model.specs.declared.Sizes.{Sizes}
 use Rattle.model.specs.Sizes.{Device}
 use Rattle.model.specs.Spare.{two}
 use Rattle.model.specs.Calls.{lentBuffer, call}
-use Rattle.model.specs.Driving.{bytesOf, operation, allowance, lineFits, callOf}
-use Rattle.digits.proofs.Bytes.{bytes-length, byte-small}
+use Rattle.model.specs.Driving.{bytesOf, operation, allowance, callOf}
+use Rattle.digits.specs.Digits.{isDigit}
+use Rattle.digits.proofs.Bytes.{byte-small}
 use Rattle.state.specs.declared.State.{State}
 use Rattle.state.specs.View.{viewOf}
 use Rattle.outcome.specs.Handed.{Handed, handed}
 use Rattle.frame.specs.declared.Request.{Request}
 use Rattle.frame.specs.declared.Request.the-variants.{Bad, Format, Read, Write, Erase, Drain, Recover}
-use Rattle.frame.specs.Request.{formatFrom, readFrom, writeFrom, bareFrom, frameRequest, requestOf}
-use Rattle.frame.proofs.Fits.{fits-digits}
+use Rattle.frame.specs.Request.{formatFrom, readFrom, writeFrom, bareFrom, frameRequest}
+use Rattle.frame.proofs.Meaning.{callFrom, allowanceOf, isBad, frame-call, frame-allowance, frame-good}
 use Rattle.calls.specs.Arrays.{seen}
-use Rattle.frame.proofs.Meaning.{callFrom, allowanceOf, isBad, frame-call, frame-allowance, line-bad, line-asks}
+use Rattle.calls.specs.Framed.{Framed}
 
 -- the fields that are two bytes wide
-pub two-small : (line : List ℕ) (i : ℕ) → lineFits line ≡ true → two (bytesOf line) i < 65536
+pub two-small : (line : List ℕ) (i : ℕ) → all isDigit line ≡ true → two (bytesOf line) i < 65536
 unfolding two
-two-small line i e = omega (arith, byte-small line i (fits-digits line e), byte-small line (i + 1) (fits-digits line e))
-
--- a write's data, from a line of 512 digits at the most
-pub data-short : (line : List ℕ) (at : ℕ) → lineFits line ≡ true → length (drop at (bytesOf line)) ≤ 65535
-unfolding lineFits
-data-short line at e = omega (arith, leb-true (length line) 512 (every-at _ e 2), bytes-length line, length-drop at (bytesOf line))
+two-small line i e = omega (arith, byte-small line i e, byte-small line (i + 1) e)
 
 -- the fields of a read or a write that stand in narrower numbers, and how many the data of a write are
 abbrev pub Narrow : List ℕ → Request → Type 0
@@ -62,18 +56,21 @@ frame-narrow f h = go (eqb (operation f) 1) (eqb (operation f) 2) (eqb (operatio
     go false false false false true = tt
     go false false false false false = tt
 
-module _ (line : List ℕ) {q : Request} (fits : lineFits line ≡ true) (e : q ≡ requestOf line) where
+module _ (line : List ℕ) {r q : Request} (framed : Framed r line) (e : q ≡ r) where
+  asks : q ≡ frameRequest (bytesOf line)
+  asks = e ∙ framed .asks
+
   pub asked-good : isBad q ≡ false
-  asked-good = ap isBad e ∙ (line-bad line ∙ ap not fits)
+  asked-good = ap isBad asks ∙ frame-good (bytesOf line)
 
   asked-call : (z : Sizes) → callFrom z (bytesOf line) q ≡ callOf z (bytesOf line)
-  asked-call z = ap (callFrom z (bytesOf line)) (e ∙ line-asks line fits) ∙ frame-call (bytesOf line) z
+  asked-call z = ap (callFrom z (bytesOf line)) asks ∙ frame-call (bytesOf line) z
 
   asked-allowance : allowanceOf q ≡ allowance (bytesOf line)
-  asked-allowance = ap allowanceOf (e ∙ line-asks line fits) ∙ frame-allowance (bytesOf line)
+  asked-allowance = ap allowanceOf asks ∙ frame-allowance (bytesOf line)
 
   pub asked-narrow : Narrow (bytesOf line) q
-  asked-narrow = rw (e ∙ line-asks line fits) (frame-narrow (bytesOf line) (λ i. two-small line i fits))
+  asked-narrow = rw asks (frame-narrow (bytesOf line) (λ i. two-small line i (framed .digits)))
 
   -- what an entry hands back of the request's call is what the line's call gives
   pub asked-made : (z : Sizes) (s : State) (d : Device) {n : ℕ} {h : Handed} → n ≡ length (lentBuffer (callFrom z (bytesOf line) q))

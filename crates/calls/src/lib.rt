@@ -9,13 +9,16 @@ ghost use mathlib.Core.Bool.{true};
 ghost use mathlib.Core.List.{[]};
 ghost use Prim.Native.Nat.{_<_, _≤_};
 ghost use lib.ListN.{length, take, drop, replicate};
+ghost use Rattle.lists.specs.Lists.{all};
+ghost use Rattle.model.specs.Sizes.{flashSize, spareSize, diskSize};
 ghost use Rattle.model.specs.Calls.{readCall, writeCall, lentBuffer, call};
-ghost use Rattle.model.specs.Driving.{bytesOf, lineFits, allowance, callOf, lend};
+ghost use Rattle.model.specs.Driving.{bytesOf, allowance, callOf, lend};
+ghost use Rattle.digits.specs.Digits.{isDigit};
 ghost use Rattle.geometry.specs.Geometry.{device};
 ghost use Rattle.state.specs.View.{viewOf};
 ghost use Rattle.outcome.specs.Handed.{handedBack, handed};
-ghost use Rattle.frame.specs.Request.{requestOf};
 ghost use Rattle.calls.specs.Arrays.{Arrays, mostRead, Held, inArrays, seen};
+ghost use Rattle.calls.specs.Framed.{Framed};
 
 // What the entry handed back, and how many bytes of the lent buffer are the call's own.
 pub struct Made {
@@ -68,7 +71,7 @@ fn write_bytes(
     spare: &mut [u8],
     disk: &mut [u8],
 ) -> Outcome
-    requires { ⌜ (bucket < 65536) × (lineFits (now line) ≡ true) ⌝ }
+    requires { ⌜ (bucket < 65536) × (all isDigit (now line) ≡ true) ⌝ }
     requires { ⌜ length (now bytes) ≡ length (drop at (bytesOf (now line))) ⌝ }
     ensures { λ r. ⌜ handedBack (device (now (flash .exit)) (now (spare .exit)) (now (disk .exit))) [] r ≡ handed s (call allowance (writeCall bucket offset (drop at (bytesOf (now (line .entry))))) (viewOf s) (device (now (flash .entry)) (now (spare .entry)) (now (disk .entry)))) ⌝ }
 {
@@ -89,7 +92,7 @@ fn write_call(
     spare: &mut [u8],
     disk: &mut [u8],
 ) -> Outcome
-    requires { ⌜ (bucket < 65536) × (lineFits (now line) ≡ true) × (mostRead ≤ length (now buffer)) ⌝ }
+    requires { ⌜ (bucket < 65536) × (all isDigit (now line) ≡ true) × (placed .length ≤ length (now buffer)) ⌝ }
     requires { ⌜ placed .length ≡ length (drop (placed .at) (bytesOf (now line))) ⌝ }
     ensures { λ r. ⌜ handedBack (device (now (flash .exit)) (now (spare .exit)) (now (disk .exit))) [] r ≡ handed s (call allowance (writeCall bucket offset (drop (placed .at) (bytesOf (now (line .entry))))) (viewOf s) (device (now (flash .entry)) (now (spare .entry)) (now (disk .entry)))) ⌝ }
 {
@@ -109,7 +112,7 @@ fn write_call(
 }
 
 // The call of a line that is none of the paper's F0; recover at the sizes z, those of the last Done format.
-fn make(
+pub fn make(
     s: State,
     z: Sizes,
     request: Request,
@@ -119,7 +122,7 @@ fn make(
     spare: &mut [u8],
     disk: &mut [u8],
 ) -> Made
-    requires { ⌜ (lineFits (now line) ≡ true) × (request ≡ requestOf (now line)) ⌝ }
+    requires { ⌜ Framed request (now line) ⌝ }
     requires { ⌜ mostRead ≤ length (now buffer) ⌝ }
     ensures { λ r. ⌜ seen (handedBack (device (now (flash .exit)) (now (spare .exit)) (now (disk .exit))) (take (r .read) (now (buffer .exit))) (r .outcome)) ≡ seen (handed s (call (allowance (bytesOf (now (line .entry)))) (callOf z (bytesOf (now (line .entry)))) (viewOf s) (device (now (flash .entry)) (now (spare .entry)) (now (disk .entry))))) ⌝ }
     ensures { λ r. ⌜ r .read ≡ length (lentBuffer (callOf z (bytesOf (now (line .entry))))) ⌝ }
@@ -176,6 +179,24 @@ fn make(
     }
 }
 
+// How many bytes hold chip data, spare areas and disk.
+pub struct Lengths {
+    pub flash: usize,
+    pub spare: usize,
+    pub disk: usize,
+}
+
+pub fn lengths_of(z: Sizes) -> Lengths
+    requires { ⌜ Held z ⌝ }
+    ensures { λ r. ⌜ (r .flash ≡ flashSize z) × (r .spare ≡ spareSize z) × (r .disk ≡ diskSize z) ⌝ }
+{
+    let bucket = z.p * z.s;
+    let flash = z.c * bucket;
+    let spare = z.c * z.p * 16;
+    let disk = z.b * bucket;
+    Lengths { flash, spare, disk }
+}
+
 // "Data, spare and disk are each lent from the start of an array."
 pub fn make_in_arrays(
     s: State,
@@ -187,24 +208,24 @@ pub fn make_in_arrays(
     spare: &mut [u8],
     disk: &mut [u8],
 ) -> Made
-    requires { ⌜ (lineFits (now line) ≡ true) × (request ≡ requestOf (now line)) ⌝ }
+    requires { ⌜ Framed request (now line) ⌝ }
     requires { ⌜ mostRead ≤ length (now buffer) ⌝ }
     requires { ⌜ Arrays (now flash) (now spare) (now disk) × Held z ⌝ }
     ensures { λ r. ⌜ seen (handedBack (device (now (flash .exit)) (now (spare .exit)) (now (disk .exit))) (take (r .read) (now (buffer .exit))) (r .outcome)) ≡ seen (inArrays z (device (now (flash .entry)) (now (spare .entry)) (now (disk .entry))) (handed s (call (allowance (bytesOf (now (line .entry)))) (callOf z (bytesOf (now (line .entry)))) (viewOf s) (lend z (device (now (flash .entry)) (now (spare .entry)) (now (disk .entry))))))) ⌝ }
     ensures { λ r. ⌜ r .read ≡ length (lentBuffer (callOf z (bytesOf (now (line .entry))))) ⌝ }
 {
-    let bucket = z.p * z.s;
-    let flash_size = z.c * bucket;
-    let spare_size = z.c * z.p * 16;
-    let disk_size = z.b * bucket;
+    let lent = lengths_of(z);
+    let flash_end = lent.flash;
+    let spare_end = lent.spare;
+    let disk_end = lent.disk;
     make(
         s,
         z,
         request,
         line,
         buffer,
-        &mut flash[..flash_size],
-        &mut spare[..spare_size],
-        &mut disk[..disk_size],
+        &mut flash[..flash_end],
+        &mut spare[..spare_end],
+        &mut disk[..disk_end],
     )
 }

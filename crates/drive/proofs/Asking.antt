@@ -1,6 +1,6 @@
 -- A line's request tells whether the line makes a call and at which sizes, or what is printed of it.
 use mathlib.Core.Path.{_≡_, refl, sym, ap, _∙_}
-use mathlib.Core.Bool.{Bool, true, false}
+use mathlib.Core.Bool.{Bool, true, false, not}
 use mathlib.Core.List.{List}
 use Prim.Native.Nat.{ℕ}
 use native.Mathlib.Omega.{arith}
@@ -20,6 +20,37 @@ use Rattle.drive.proofs.Held.{held-sizes}
 use Rattle.drive.proofs.Requests.{asked-fits, asked-operation, asked-sizes, asked-bad}
 use Rattle.drive.proofs.Ways.{bad-line, format-asked, call-asked, limits-broken, beyond-arrays, format-called, unformatted, call-called}
 
+-- ---- a call that is made is made at sizes that the arrays have room for
+
+format-held : (z : Sizes) → formatUnmade z ≡ 0 → Held z
+unfolding formatUnmade
+format-held z = go (limits z) refl (tooLarge z) refl
+  where
+    go : (l : Bool) → limits z ≡ l → (t : Bool) → tooLarge z ≡ t → _≡_ {A = ℕ} (if not l then 1 else (if t then 0xF1 else 0)) 0 → Held z
+    go false h t g k = absurd (omega (arith, k))
+    go true h true g k = absurd (omega (arith, k))
+    go true h false g k = held-sizes z h g
+
+module _ (t : Bool) (kept : Sizes) (ready : Ready t kept) where
+  kept-held : _≡_ {A = ℕ} (if t then 0 else 3) 0 → Held kept
+  kept-held = go t refl
+    where
+      go : (u : Bool) → t ≡ u → _≡_ {A = ℕ} (if u then 0 else 3) 0 → Held kept
+      go true h k = ready h
+      go false h k = absurd (omega (arith, k))
+
+  pub asked-held : (q : Request) → unmade t q ≡ 0 → Held (sizesAsked q kept)
+  unfolding unmade sizesAsked
+  asked-held Bad k = absurd (omega (arith, k))
+  asked-held (Format n z) k = format-held z k
+  asked-held (Read n b off len) k = kept-held k
+  asked-held (Write n b off placed) k = kept-held k
+  asked-held (Erase n) k = kept-held k
+  asked-held (Drain n) k = kept-held k
+  asked-held (Recover n) k = kept-held k
+
+-- ---- what a line does
+
 module _ (r : Recorder) (line : List ℕ) where
   abbrev f : List ℕ
   f = bytesOf line
@@ -28,9 +59,9 @@ module _ (r : Recorder) (line : List ℕ) where
   abbrev Unmade : Request → Type 0
   Unmade q = (unmade (r .formatted) q ≡ 0 → ⊥) → onLine r line ≡ noCall (unmade (r .formatted) q) r
 
-  -- the call is made, at sizes that the arrays have room for
+  -- the call is made
   abbrev Made : Request → Type 0
-  Made q = unmade (r .formatted) q ≡ 0 → (lineFits line ≡ true) × (onLine r line ≡ calledLine (sizesAsked q (r .sizes)) (isFormat q) r f) × (Ready (r .formatted) (r .sizes) → Held (sizesAsked q (r .sizes)))
+  Made q = unmade (r .formatted) q ≡ 0 → (lineFits line ≡ true) × (onLine r line ≡ calledLine (sizesAsked q (r .sizes)) (isFormat q) r f)
 
   module _ (n : ℕ) (z : Sizes) (e : Format n z ≡ requestOf line) where
     format-way : (lineFits line ≡ true) × (onLine r line ≡ formatLine r f)
@@ -62,7 +93,6 @@ module _ (r : Recorder) (line : List ℕ) where
         go true h false g k = (
           format-way .0,
           format-way .1 ∙ (format-called r f (asked-sizes line n z e .0) (ap limits (sym own) ∙ h) (ap tooLarge (sym own) ∙ g) ∙ ap (λ (y : Sizes). calledLine y true r f) (sym own)),
-          λ _. held-sizes z h g,
         )
 
   -- the lines 02 to 06
@@ -77,11 +107,11 @@ module _ (r : Recorder) (line : List ℕ) where
         go true h k = absurd (k refl)
         go false h k = call-way .1 ∙ unformatted r f h
 
-    call-made : _≡_ {A = ℕ} (if r .formatted then 0 else 3) 0 → (lineFits line ≡ true) × (onLine r line ≡ calledLine (r .sizes) false r f) × (Ready (r .formatted) (r .sizes) → Held (r .sizes))
+    call-made : _≡_ {A = ℕ} (if r .formatted then 0 else 3) 0 → (lineFits line ≡ true) × (onLine r line ≡ calledLine (r .sizes) false r f)
     call-made = go (r .formatted) refl
       where
-        go : (t : Bool) → r .formatted ≡ t → _≡_ {A = ℕ} (if t then 0 else 3) 0 → (lineFits line ≡ true) × (onLine r line ≡ calledLine (r .sizes) false r f) × (Ready (r .formatted) (r .sizes) → Held (r .sizes))
-        go true h k = (call-way .0, call-way .1 ∙ call-called r f h, λ ready. ready h)
+        go : (t : Bool) → r .formatted ≡ t → _≡_ {A = ℕ} (if t then 0 else 3) 0 → (lineFits line ≡ true) × (onLine r line ≡ calledLine (r .sizes) false r f)
+        go true h k = (call-way .0, call-way .1 ∙ call-called r f h)
         go false h k = absurd (omega (arith, k))
 
   pub line-unmade : (q : Request) → q ≡ requestOf line → Unmade q

@@ -4,6 +4,7 @@ use mathlib.Core.Bool.{Bool, true, false, _||_}
 use mathlib.Core.List.{List}
 use Prim.Native.Nat.{ℕ}
 use lib.Dec.{eqb}
+use Rattle.lists.specs.Lists.{if_then_else_}
 use Rattle.model.specs.declared.Sizes.{Sizes}
 use Rattle.model.specs.Sizes.{limits}
 use Rattle.model.specs.Calls.{Outcome}
@@ -12,6 +13,12 @@ use Rattle.calls.specs.Arrays.{Held}
 use Rattle.drive.specs.Recorder.{Ready}
 use Rattle.drive.proofs.Held.{held-sizes}
 use Rattle.drive.proofs.Ways.{bad-line, format-asked, call-asked, limits-broken, beyond-arrays, unformatted}
+
+-- a call at sizes that have room, which may be kept
+pub settled-held : (t formats : Bool) (kept z : Sizes) → Ready t kept → Held z → Ready (t || formats) (if formats then z else kept)
+settled-held t true kept z ready held e = held
+settled-held true false kept z ready held e = ready refl
+settled-held false false kept z ready held e = ready e
 
 abbrev After : Printed → Type 0
 After p = Ready (p .recorder .formatted) (p .recorder .sizes)
@@ -23,12 +30,7 @@ module _ (r : Recorder) (ready : Ready (r .formatted) (r .sizes)) where
 
   settled-ready : (z : Sizes) (o : Outcome) (formats : Bool) → Held z → Ready (settled z r o formats .formatted) (settled z r o formats .sizes)
   unfolding settled
-  settled-ready z o true held e = held
-  settled-ready z o false held e = ready (go (r .formatted) e)
-    where
-      go : (t : Bool) → t || false ≡ true → t ≡ true
-      go true e = refl
-      go false e = e
+  settled-ready z o formats held = settled-held (r .formatted) formats (r .sizes) z ready held
 
   format-ready : (f : List ℕ) → After (formatLine r f)
   unfolding formatLine

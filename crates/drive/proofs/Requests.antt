@@ -4,22 +4,27 @@ use mathlib.Core.Bool.{Bool, true, false}
 use mathlib.Core.List.{List, [], _∷_}
 use Prim.Native.Nat.{ℕ, _≤_}
 use native.Mathlib.Omega.{arith}
-use borrow.Author.Tests.{eqb-true, not-true, not-false}
+use borrow.Author.Tests.{eqb-true, leb-true, not-true, not-false}
 use lib.ListN.{length, drop, replicate, length-replicate}
 use lib.Dec.{eqb}
 use types.Run.{OneOf, miss}
 use denote.Enum.Declared.{tagOf}
-use Rattle.lists.specs.Lists.{if_then_else_}
+use Rattle.lists.specs.Lists.{if_then_else_, all}
+use Rattle.lists.proofs.Tests.{every-at}
 use Rattle.model.specs.declared.Sizes.{Sizes}
 use Rattle.model.specs.Spare.{two}
 use Rattle.model.specs.Calls.{formatCall, readCall, writeCall, eraseCall, drainCall, recoverCall, lentBuffer}
 use Rattle.model.specs.Driving.{bytesOf, operation, allowance, formatSizes, lineFits, callOf}
+use Rattle.digits.specs.Digits.{isDigit}
+use Rattle.digits.proofs.Bytes.{bytes-length}
 use Rattle.frame.specs.declared.Request.{Request}
 use Rattle.frame.specs.declared.Request.the-variants.{Bad, Format, Read, Write, Erase, Drain, Recover}
 use Rattle.frame.specs.Request.{requestOf, isFormat}
 use Rattle.frame.proofs.Request.{the-type}
 use Rattle.frame.proofs.Asked.{format-asked}
+use Rattle.frame.proofs.Fits.{fits-digits}
 use Rattle.frame.proofs.Meaning.{isBad, frame-format, line-bad, line-asks}
+use Rattle.calls.specs.Framed.{Framed}
 use Rattle.calls.proofs.Asked.{two-small}
 use Rattle.drive.specs.Asking.{unmade, sizesAsked}
 
@@ -41,6 +46,15 @@ asked-sizes line n z e =
     let same : Format n z ≡ Format (allowance f) (formatSizes f) = e ∙ (line-asks line fits ∙ format-asked f one) in
     (one, cc)
 
+-- a line that fits is a frame with its request
+pub asked-framed : (line : List ℕ) {q : Request} → lineFits line ≡ true → q ≡ requestOf line → Framed q line
+unfolding lineFits
+asked-framed line fits e = record {
+  digits = fits-digits line fits;
+  short = omega (arith, leb-true (length line) 512 (every-at _ fits 2), bytes-length line);
+  asks = e ∙ line-asks line fits;
+}
+
 -- no line is bad but those of F0
 pub asked-bad : (line : List ℕ) → Bad ≡ requestOf line → lineFits line ≡ false
 unfolding isBad
@@ -59,7 +73,7 @@ other-request t kept (Drain n) h = (refl, refl, refl)
 other-request t kept (Recover n) h = (refl, refl, refl)
 
 -- the bytes that a line may read
-pub read-short : (z : Sizes) (line : List ℕ) → lineFits line ≡ true → length (lentBuffer (callOf z (bytesOf line))) ≤ 65535
+pub read-short : (z : Sizes) (line : List ℕ) → all isDigit line ≡ true → length (lentBuffer (callOf z (bytesOf line))) ≤ 65535
 unfolding callOf lentBuffer
 read-short z line e =
     let op = operation (bytesOf line) in

@@ -1,16 +1,17 @@
 -- The structs that a line is given and hands back, seen with the program's arrays as document 01's recorder.
 use Prim.Native.Nat.{ℕ, _≤_}
 use mathlib.Core.Path.{_≡_}
-use mathlib.Core.Bool.{Bool, true, _&&_, _||_}
+use mathlib.Core.Bool.{Bool, true, false, _&&_, _||_}
 use mathlib.Core.List.{List}
 use lib.ListN.{length, take}
 use Rattle.lists.specs.Lists.{if_then_else_}
 use Rattle.model.specs.declared.Sizes.{Sizes}
+use Rattle.model.specs.State.{unformatted}
 use Rattle.model.specs.Calls.{Outcome, isDone, call}
 use Rattle.model.specs.Driving.{Recorder, Printed, allowance, callOf, lend, settled, printed}
 use Rattle.geometry.specs.Geometry.{device}
 use Rattle.state.specs.declared.State.{State as Struct}
-use Rattle.state.specs.View.{viewOf}
+use Rattle.state.specs.View.{viewOf, stateOf}
 use Rattle.outcome.specs.Handed.{Handed}
 use Rattle.calls.specs.Arrays.{mostRead, Held}
 use Rattle.drive.specs.declared.Recorder.{Recorder as RecorderStruct}
@@ -26,6 +27,10 @@ printedOf p flash spare disk out = record { recorder = recorderOf (p .recorder) 
 -- the outcome that an entry handed back
 abbrev pub outcomeOf : Handed → Outcome
 outcomeOf h = record { answer = h .outcome .answer; stores = h .outcome .stores; state = viewOf (h .outcome .state); device = h .device; buffer = h .buffer }
+
+-- no format yet
+unfoldable pub fresh : RecorderStruct
+fresh = record { state = stateOf unformatted; formatted = false; sizes = unformatted .sizes }
 
 -- the sizes of the last Done format, if there was one, have room in the arrays
 abbrev pub Ready : (formatted : Bool) → Sizes → Type 0

@@ -18,7 +18,7 @@ ghost use Rattle.geometry.specs.Geometry.{device};
 ghost use Rattle.frame.specs.Request.{requestOf, isFormat};
 ghost use Rattle.outcome.specs.Handed.{handedBack};
 ghost use Rattle.calls.specs.Arrays.{Arrays, Held};
-ghost use Rattle.drive.specs.Recorder.{recorderOf, printedOf, outcomeOf, Ready, Room, after, calledLine};
+ghost use Rattle.drive.specs.Recorder.{recorderOf, printedOf, outcomeOf, fresh, Ready, Room, after, calledLine};
 ghost use Rattle.drive.specs.Asking.{formatUnmade, unmade, sizesAsked};
 
 // "Its flash buffer is 32,768 bytes, spare areas included; its disk is 16,384"
@@ -36,13 +36,28 @@ pub struct Recorder {
     pub sizes: Sizes,
 }
 
+impl Recorder {
+    // No format yet.
+    pub fn unformatted() -> Recorder
+        ensures { λ r. ⌜ r ≡ fresh ⌝ }
+    {
+        let state = State::unformatted();
+        let sizes = state.sizes;
+        Recorder {
+            state,
+            formatted: false,
+            sizes,
+        }
+    }
+}
+
 // The recorder after a line, and how many characters were printed of it.
 pub struct Printed {
     pub recorder: Recorder,
     pub length: usize,
 }
 
-fn is_done(answer: Answer) -> bool
+pub fn is_done(answer: Answer) -> bool
     ensures { λ r. ⌜ r ≡ isDone answer ⌝ }
 {
     match answer {
@@ -54,7 +69,7 @@ fn is_done(answer: Answer) -> bool
 }
 
 // "answer byte, stores (2), bytes read if Done": "all but Done and Cut print stores 0000".
-fn print(o: Outcome, bytes: &[u8], out: &mut [u8]) -> usize
+pub fn print(o: Outcome, bytes: &[u8], out: &mut [u8]) -> usize
     requires { ⌜ (o .stores < 65536) × (7 ≤ length (now out)) × (o .answer ≡ Done → 7 + length (now bytes) * 2 ≤ length (now out)) ⌝ }
     ensures { λ r. ⌜ take r (now (out .exit)) ≡ printed (outcomeOf (handedBack (device [] [] []) (now (bytes .entry)) o)) ⌝ }
     ensures { λ r. ⌜ r ≤ length (now (out .exit)) ⌝ }
@@ -92,7 +107,7 @@ fn too_large(z: Sizes) -> bool
 }
 
 // The recorder after a call at the sizes z: a Done format's sizes are kept. Only the sizes are chosen between: a choice between recorders would copy the state.
-fn settle(r: Recorder, z: Sizes, state: State, formats: bool) -> Recorder
+pub fn settle(r: Recorder, z: Sizes, state: State, formats: bool) -> Recorder
     ensures { λ p. ⌜ p ≡ after r z state formats ⌝ }
 {
     let formatted = r.formatted | formats;
@@ -149,14 +164,14 @@ fn format_unmade(z: Sizes) -> u8
 }
 
 // What a line asks for: the number printed of it if it makes no call, or 0; the sizes of its call; whether that is a format.
-struct Asked {
-    unmade: u8,
-    sizes: Sizes,
-    format: bool,
+pub struct Asked {
+    pub unmade: u8,
+    pub sizes: Sizes,
+    pub format: bool,
 }
 
 // "F0, before all else"; "02 to 06 before a format that was Done print 030000". A format has sizes of its own.
-fn asks(formatted: bool, kept: Sizes, request: Request) -> Asked
+pub fn asks(formatted: bool, kept: Sizes, request: Request) -> Asked
     ensures { λ r. ⌜ (r .unmade ≡ unmade formatted request) × (r .sizes ≡ sizesAsked request kept) × (r .format ≡ isFormat request) ⌝ }
 {
     match request {

@@ -13,6 +13,9 @@ ghost use Rattle.model.specs.State.{unformatted};
 ghost use Rattle.state.specs.View.{viewOf, stateOf};
 ghost use Rattle.form.specs.Form.{formOf, hasForm, isForm, stateIn};
 
+// The bytes of the longest form.
+pub const LONGEST: usize = 985;
+
 // The state's form at the start of `out`, and its length; 0 where it has none, or none that has room there.
 pub fn state_bytes(s: State, out: &mut [u8]) -> usize
     ensures { λ r. ⌜ r ≡ (if hasForm (viewOf s) && leb (length (formOf (viewOf s))) (length (now (out .entry))) then length (formOf (viewOf s)) else 0) ⌝ }

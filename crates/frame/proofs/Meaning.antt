@@ -97,7 +97,7 @@ module _ (f : List ℕ) where
   unfolding isFormat formatFrom readFrom writeFrom
   frame-format = each isFormat ∙ first (is 1) (is 2) (is 3) (is 4) (is 5)
 
-  frame-good : isBad (frameRequest f) ≡ false
+  pub frame-good : isBad (frameRequest f) ≡ false
   unfolding isBad formatFrom readFrom writeFrom
   frame-good = each isBad ∙ alike (is 1) (is 2) (is 3) (is 4) (is 5) false
 

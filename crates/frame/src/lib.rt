@@ -4,7 +4,9 @@ use model::Sizes;
 ghost use mathlib.Core.Path.{_≡_};
 ghost use mathlib.Core.Bool.{true};
 ghost use lib.ListN.{length, drop};
+ghost use Rattle.lists.specs.Lists.{all};
 ghost use Rattle.model.specs.Driving.{bytesOf, operation, frameFits, lineFits};
+ghost use Rattle.digits.specs.Digits.{isDigit};
 ghost use Rattle.frame.specs.Request.{formatFrom, readFrom, writeFrom, bareFrom, frameRequest, requestOf};
 
 // The digits of the longest line.
@@ -124,7 +126,7 @@ fn bare_request(operation: usize, allowance: usize) -> Request
 }
 
 // The request of a frame that fits: "operation byte, allowance (2), fields".
-fn frame_request(text: &[u8]) -> Request
+pub fn frame_request(text: &[u8]) -> Request
     ensures { λ r. ⌜ r ≡ frameRequest (bytesOf (now (text .entry))) ⌝ }
 {
     let operation = line::next(line::start(text), 1);
@@ -146,7 +148,7 @@ fn frame_operation(text: &[u8]) -> usize
 }
 
 // A known operation with fields of the right length, behind 3 bytes of operation and allowance.
-fn frame_fits(line: &[u8]) -> bool
+pub fn frame_fits(line: &[u8]) -> bool
     ensures { λ r. ⌜ r ≡ frameFits (bytesOf (now (line .entry))) ⌝ }
 {
     let bytes = line.len() / 2;
@@ -182,7 +184,7 @@ pub fn request_of(line: &[u8]) -> Request
 
 // The data of a write, from the byte of the frame where they begin.
 pub fn write_data(line: &[u8], at: usize, out: &mut [u8])
-    requires { ⌜ lineFits (now line) ≡ true ⌝ }
+    requires { ⌜ all isDigit (now line) ≡ true ⌝ }
     requires { ⌜ length (now out) ≡ length (drop at (bytesOf (now line))) ⌝ }
     ensures { λ _. ⌜ now (out .exit) ≡ drop at (bytesOf (now (line .entry))) ⌝ }
 {

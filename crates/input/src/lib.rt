@@ -1,6 +1,5 @@
 // The program's input, taken in pieces: bytes are gathered into lines, and each line is walked once it is whole.
 use drive::Recorder;
-use state::State;
 ghost use mathlib.Core.Path.{_≡_};
 ghost use mathlib.Core.List.{List, _++_};
 ghost use Prim.Native.Nat.{ℕ, _+_, _<_, _≤_};
@@ -8,7 +7,7 @@ ghost use lib.ListN.{length, take, drop, replicate};
 ghost use Rattle.model.specs.Driving.{output};
 ghost use Rattle.drive.specs.Recorder.{longestText, Ready};
 ghost use Rattle.input.specs.declared.Walk.{Walk};
-ghost use Rattle.input.specs.Ahead.{lineRoom, ahead, closer, Sound};
+ghost use Rattle.input.specs.Ahead.{ahead, closer, Sound};
 
 // How far the program has come.
 pub struct Walk {
@@ -19,23 +18,6 @@ pub struct Walk {
     pub passed: usize,
     // the characters printed and not yet written
     pub printed: usize,
-}
-
-// The bytes that are held of a line: any longer one is F0, whatever follows.
-pub const LINE_ROOM: usize = 513;
-
-// More bytes of the line, up to so many.
-fn gather(line: &mut [u8], held: usize, bytes: &[u8]) -> usize
-    requires { ⌜ (length (now line) ≡ lineRoom) × (held ≤ lineRoom) ⌝ }
-    ensures { λ r. ⌜ (r ≤ lineRoom) × (take r (now (line .exit)) ≡ take lineRoom (take held (now (line .entry)) ++ now (bytes .entry))) ⌝ }
-{
-    let room = LINE_ROOM - held;
-    if bytes.len() <= room {
-        area::write_at(line, held, bytes);
-        return held + bytes.len();
-    }
-    area::write_at(line, held, &bytes[..room]);
-    LINE_ROOM
 }
 
 // Line by line, each walked once it is whole, up to the end of the piece or of the room for its text.
@@ -58,7 +40,7 @@ pub fn advance(
     while walk.passed < piece.len() && drive::LONGEST_TEXT <= out.len() - walk.printed {
         let from = walk.passed;
         let end = lines::line_end(piece, from);
-        let held = gather(line, walk.held, &piece[from..end]);
+        let held = lines::gather(line, walk.held, &piece[from..end]);
         walk.held = held;
         walk.passed = end;
         if end < piece.len() {
@@ -103,13 +85,7 @@ pub fn start() -> Walk
     ensures { λ r. ⌜ ((line out input : List ℕ) → ahead r line (replicate 32768 0) (replicate 32768 0) (replicate 16384 0) out input ≡ output input) ⌝ }
     ensures { λ r. ⌜ Ready (r .recorder .formatted) (r .recorder .sizes) × (r .held ≡ 0) × (r .printed ≡ 0) ⌝ }
 {
-    let state = State::unformatted();
-    let sizes = state.sizes;
-    let recorder = Recorder {
-        state,
-        formatted: false,
-        sizes,
-    };
+    let recorder = Recorder::unformatted();
     Walk {
         recorder,
         held: 0,

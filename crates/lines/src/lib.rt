@@ -1,7 +1,8 @@
-// Where the lines of a text end. The text may come in pieces.
+// The lines of a text that comes in pieces: where they end, and their bytes gathered.
 ghost use mathlib.Core.Path.{_≡_};
+ghost use mathlib.Core.List.{_++_};
 ghost use Prim.Native.Nat.{_<_, _≤_};
-ghost use lib.ListN.{length, getD};
+ghost use lib.ListN.{length, take, getD};
 ghost use Rattle.lines.specs.Lines.{OneLine};
 
 // Where the line ends: at the next line feed, or with the piece.
@@ -18,4 +19,19 @@ pub fn line_end(piece: &[u8], from: usize) -> usize
         end += 1;
     }
     end
+}
+
+// More bytes of a line behind those that are held of it, as many as there is room for: how many are then held.
+pub fn gather(line: &mut [u8], held: usize, bytes: &[u8]) -> usize
+    requires { ⌜ held ≤ length (now line) ⌝ }
+    ensures { λ r. ⌜ (r ≤ length (now (line .entry))) × (take r (now (line .exit)) ≡ take (length (now (line .entry))) (take held (now (line .entry)) ++ now (bytes .entry))) ⌝ }
+{
+    let most = line.len();
+    let room = most - held;
+    if bytes.len() <= room {
+        area::write_at(line, held, bytes);
+        return held + bytes.len();
+    }
+    area::write_at(line, held, &bytes[..room]);
+    most
 }

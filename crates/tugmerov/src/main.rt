@@ -1,5 +1,6 @@
 // The driving program: lines from standard input, and what is printed of each to standard output.
 use input::Walk;
+use streams::Got;
 ghost use mathlib.Core.Path.{_≡_};
 ghost use mathlib.Core.Bool.{true, false};
 ghost use Prim.Native.Nat.{_<_, _≤_};
@@ -12,11 +13,8 @@ ghost use Rattle.input.specs.Ahead.{lineRoom, ahead, closer, Sound};
 ghost use Rattle.input.specs.Ways.{Begun, Walked, Closed};
 ghost use Rattle.tugmerov.specs.Whole.{Reached, Ended, Whole};
 
-// What a read gave: so many bytes or the end of the input; neither where it failed.
-struct Got {
-    count: usize,
-    ended: bool,
-}
+// The bytes that are held of a line: any longer one is F0, whatever follows.
+const LINE_ROOM: usize = 513;
 
 // How far the program has come, and how many characters `write` took on the way: by their number the contracts say which they were.
 struct Told {
@@ -28,70 +26,6 @@ struct Told {
 struct Came {
     walk: Walk,
     ended: bool,
-}
-
-// Whether the call that failed may do better: it was interrupted, or the other side was not ready and has had a turn.
-fn passing() -> bool {
-    let error = os::errno();
-    if error == libc::EAGAIN {
-        libc::sched_yield();
-    }
-    (error == libc::EINTR) | (error == libc::EAGAIN)
-}
-
-// Whether a call with this answer is made again.
-fn again(answer: isize, tries: u64) -> bool
-    ensures { λ r. ⌜ (r ≡ true → 0 < tries) ⌝ }
-{
-    if answer >= 0 {
-        return false;
-    }
-    passing() & (tries > 0)
-}
-
-// A proved loop has to end, and nothing says that the other side will be ready: the loop counts its tries down.
-fn read_piece(piece: &mut [u8]) -> Got
-    ensures { λ r. ⌜ (r .count ≤ length (now (piece .exit))) × (r .ended ≡ true → r .count ≡ 0) ⌝ }
-{
-    let mut got = libc::read(0, piece);
-    let mut tries = u64::MAX;
-    while again(got, tries) {
-        got = libc::read(0, piece);
-        tries -= 1;
-    }
-    let count = io::count(got, piece);
-    Got {
-        count,
-        ended: (count == 0) & (got >= 0),
-    }
-}
-
-// One write, of some of the text; of none where the output failed.
-fn write_some(text: &[u8]) -> usize
-    ensures { λ r. ⌜ r ≤ length (now (text .entry)) ⌝ }
-{
-    let mut put = libc::write(1, text);
-    let mut tries = u64::MAX;
-    while again(put, tries) {
-        put = libc::write(1, text);
-        tries -= 1;
-    }
-    io::count(put, text)
-}
-
-// How many characters of the text were written: all, unless the output failed.
-fn write_out(text: &[u8]) -> usize
-    ensures { λ r. ⌜ r ≤ length (now (text .entry)) ⌝ }
-{
-    let mut written = 0;
-    while written < text.len() {
-        let put = write_some(&text[written..]);
-        if put == 0 {
-            return written;
-        }
-        written += put;
-    }
-    written
 }
 
 // The lines of a piece are answered before the next is read: someone may wait for the answers. Where the output fails the walk ends, with characters
@@ -118,7 +52,7 @@ fn walk_piece(
     while walk.passed < piece.len() && walk.printed == 0 {
         walk = input::advance(walk, piece, line, buffer, flash, spare, disk, out);
         let printed = walk.printed;
-        let put = write_out(&out[..printed]);
+        let put = streams::write_out(&out[..printed]);
         walk.printed = printed - put;
         written += put;
     }
@@ -180,7 +114,7 @@ fn walk_pieces(
     let mut more = true;
     let mut turns = u64::MAX;
     while more && turns > 0 {
-        let got = read_piece(piece);
+        let got = streams::read_piece(piece);
         let told = turn(walk, got, piece, line, buffer, flash, spare, disk, out);
         let next = told.walk;
         walk = next;
@@ -220,7 +154,7 @@ fn report(came: Came) {
 
 fn main() {
     let mut piece = [0u8; 65536];
-    let mut line = [0u8; input::LINE_ROOM];
+    let mut line = [0u8; LINE_ROOM];
     let mut buffer = [0u8; 65536];
     let mut flash = [0u8; drive::FLASH];
     let mut spare = [0u8; drive::FLASH];

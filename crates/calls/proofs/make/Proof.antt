@@ -1,5 +1,5 @@
 -- `calls::make` meets its contract.
-use lib.ListN.{length-replicate}
+use lib.ListN.{length-replicate, length-drop}
 use native.Mathlib.Omega.{arith}
 use mathlib.Core.Bool.{true≢false}
 use mathlib.Core.Path.{refl, sym, ap, _∙_}
@@ -7,6 +7,7 @@ use borrow.Author.Needs.{needs}
 use Rattle.frame.proofs.Meaning.{isBad, callFrom, allowanceOf}
 use Rattle.geometry.specs.Geometry.{device}
 use Rattle.model.specs.Calls.{lentBuffer}
+use Rattle.model.specs.Driving.{bytesOf}
 use Rattle.calls.specs.Arrays.{seen}
 use Rattle.calls.proofs.Asked.{asked-good, asked-narrow, asked-made}
 use Rattle.calls.proofs.make.Statement.{statement}
@@ -35,7 +36,7 @@ enum-known-request-2 c = search needs
 
 read-call-requires : tie.Need-read-call-requires
 read-call-requires c κs = let start = c .before .before .before .before .before .before .before .before .before .before .before .before in
-    let n = asked-narrow (start .args .line .now) (start .pre .0 .0) (sym (c .before .before .before .before .before .request2 .given .1) ∙ start .pre .0 .1) in
+    let n = asked-narrow (start .args .line .now) (start .pre .0) (sym (c .before .before .before .before .before .request2 .given .1)) in
     (n .0, omega (arith, n .1, start .pre .1))
 
 enum-known-request-3 : tie.Need-enum-known-request-3
@@ -43,8 +44,9 @@ enum-known-request-3 c = search needs
 
 write-call-requires : tie.Need-write-call-requires
 write-call-requires c κs = let start = c .before .before .before .before .before .before .before .before .before .before .before .before in
-    let n = asked-narrow (start .args .line .now) (start .pre .0 .0) (sym (c .before .before .before .before .before .request3 .given .1) ∙ start .pre .0 .1) in
-    ((n .0, start .pre .0 .0, start .pre .1), n .1)
+    let request3 = c .before .before .before .before .before .request3 in
+    let n = asked-narrow (start .args .line .now) (start .pre .0) (sym (request3 .given .1)) in
+    ((n .0, start .pre .0 .digits, omega (arith, n .1, length-drop (request3 .given .0 .1 .1 .1 .0 .at) (bytesOf (start .args .line .now)), start .pre .0 .short, start .pre .1)), n .1)
 
 unread-requires-3 : tie.Need-unread-requires-3
 unread-requires-3 c κs = search needs
@@ -78,7 +80,7 @@ unread-requires-6 c κs = search needs
 
 returns : tie.Need-returns
 unfolding isBad
-returns c = let start = c .before .before .before .before .before .before .before .before .before in absurd (true≢false (asked-good (start .args .line .now) (start .pre .0 .0) (sym (c .before .before .enum-told .given .1) ∙ start .pre .0 .1)))
+returns c = let start = c .before .before .before .before .before .before .before .before .before in absurd (true≢false (asked-good (start .args .line .now) (start .pre .0) (sym (c .before .before .enum-told .given .1))))
 
 same-length : tie.Need-same-length
 same-length c = search needs
@@ -95,8 +97,8 @@ returns-2 c =
     let request = c .before .before .before .before .before .before .before .before .before .before .before .before .request in
     let start = c .before .before .before .before .before .before .before .before .before .before .before .before .before .before .before .before .before .before .before in
     let a = start .args in
-    let e = sym (request .given .1) ∙ start .pre .0 .1 in
-    rw (c .unread2 .ensures .0, c .unread2 .ensures .1) (asked-made (a .line .now) (start .pre .0 .0) e (a .z) (a .s) (device (a .flash .now) (a .spare .now) (a .disk .now)) refl (ap seen (c .before .before .before .before .before .before .before .format .ensures)))
+    let e = sym (request .given .1) in
+    rw (c .unread2 .ensures .0, c .unread2 .ensures .1) (asked-made (a .line .now) (start .pre .0) e (a .z) (a .s) (device (a .flash .now) (a .spare .now) (a .disk .now)) refl (ap seen (c .before .before .before .before .before .before .before .format .ensures)))
 
 same-length-4 : tie.Need-same-length-4
 same-length-4 c = search needs
@@ -118,7 +120,7 @@ returns-3 c =
     let start = c .before .before .before .before .before .before .before .before .before .before .before .before .before .before .before .before .before .before .before .before .before in
     let a = start .args in
     let made = read-call .ensures in
-    asked-made (a .line .now) (start .pre .0 .0) (sym (request2 .given .1) ∙ start .pre .0 .1) (a .z) (a .s) (device (a .flash .now) (a .spare .now) (a .disk .now)) (made .1 ∙ sym (length-replicate (request2 .given .0 .1 .1 .1 .0) 0)) (made .0)
+    asked-made (a .line .now) (start .pre .0) (sym (request2 .given .1)) (a .z) (a .s) (device (a .flash .now) (a .spare .now) (a .disk .now)) (made .1 ∙ sym (length-replicate (request2 .given .0 .1 .1 .1 .0) 0)) (made .0)
 
 same-length-8 : tie.Need-same-length-8
 same-length-8 c = search needs
@@ -139,8 +141,8 @@ returns-4 c =
     let write-call = c .before .before .before .before .before .before .before .before .before .write-call in
     let start = c .before .before .before .before .before .before .before .before .before .before .before .before .before .before .before .before .before .before .before .before .before .before in
     let a = start .args in
-    let e = sym (request3 .given .1) ∙ start .pre .0 .1 in
-    rw (c .unread3 .ensures .0, c .unread3 .ensures .1) (asked-made (a .line .now) (start .pre .0 .0) e (a .z) (a .s) (device (a .flash .now) (a .spare .now) (a .disk .now)) refl (ap seen (write-call .ensures)))
+    let e = sym (request3 .given .1) in
+    rw (c .unread3 .ensures .0, c .unread3 .ensures .1) (asked-made (a .line .now) (start .pre .0) e (a .z) (a .s) (device (a .flash .now) (a .spare .now) (a .disk .now)) refl (ap seen (write-call .ensures)))
 
 same-length-12 : tie.Need-same-length-12
 same-length-12 c = search needs
@@ -157,8 +159,8 @@ returns-5 c =
     let request4 = c .before .before .before .before .before .before .before .before .before .before .before .before .request4 in
     let start = c .before .before .before .before .before .before .before .before .before .before .before .before .before .before .before .before .before .before .before in
     let a = start .args in
-    let e = sym (request4 .given .1) ∙ start .pre .0 .1 in
-    rw (c .unread4 .ensures .0, c .unread4 .ensures .1) (asked-made (a .line .now) (start .pre .0 .0) e (a .z) (a .s) (device (a .flash .now) (a .spare .now) (a .disk .now)) refl (ap seen (c .before .before .before .before .before .before .before .erase-step .ensures)))
+    let e = sym (request4 .given .1) in
+    rw (c .unread4 .ensures .0, c .unread4 .ensures .1) (asked-made (a .line .now) (start .pre .0) e (a .z) (a .s) (device (a .flash .now) (a .spare .now) (a .disk .now)) refl (ap seen (c .before .before .before .before .before .before .before .erase-step .ensures)))
 
 same-length-15 : tie.Need-same-length-15
 same-length-15 c = search needs
@@ -175,8 +177,8 @@ returns-6 c =
     let request5 = c .before .before .before .before .before .before .before .before .before .before .before .before .request5 in
     let start = c .before .before .before .before .before .before .before .before .before .before .before .before .before .before .before .before .before .before .before in
     let a = start .args in
-    let e = sym (request5 .given .1) ∙ start .pre .0 .1 in
-    rw (c .unread5 .ensures .0, c .unread5 .ensures .1) (asked-made (a .line .now) (start .pre .0 .0) e (a .z) (a .s) (device (a .flash .now) (a .spare .now) (a .disk .now)) refl (ap seen (c .before .before .before .before .before .before .before .drain .ensures)))
+    let e = sym (request5 .given .1) in
+    rw (c .unread5 .ensures .0, c .unread5 .ensures .1) (asked-made (a .line .now) (start .pre .0) e (a .z) (a .s) (device (a .flash .now) (a .spare .now) (a .disk .now)) refl (ap seen (c .before .before .before .before .before .before .before .drain .ensures)))
 
 same-length-18 : tie.Need-same-length-18
 same-length-18 c = search needs
@@ -193,8 +195,8 @@ returns-7 c =
     let request6 = c .before .before .before .before .before .before .before .before .before .before .before .before .request6 in
     let start = c .before .before .before .before .before .before .before .before .before .before .before .before .before .before .before .before .before .before .before in
     let a = start .args in
-    let e = sym (request6 .given .1) ∙ start .pre .0 .1 in
-    rw (c .unread6 .ensures .0, c .unread6 .ensures .1) (asked-made (a .line .now) (start .pre .0 .0) e (a .z) (a .s) (device (a .flash .now) (a .spare .now) (a .disk .now)) refl (ap seen (c .before .before .before .before .before .before .before .recover .ensures)))
+    let e = sym (request6 .given .1) in
+    rw (c .unread6 .ensures .0, c .unread6 .ensures .1) (asked-made (a .line .now) (start .pre .0) e (a .z) (a .s) (device (a .flash .now) (a .spare .now) (a .disk .now)) refl (ap seen (c .before .before .before .before .before .before .before .recover .ensures)))
 
 pub make-spec : {M : Type 1} → statement M
 make-spec =

@@ -2,24 +2,19 @@
 use lib.ListN.{length-take}
 use native.Mathlib.Omega.{arith}
 use borrow.Author.Needs.{needs}
-use Rattle.calls.proofs.Asked.{data-short}
 use Rattle.calls.proofs.write_call.Statement.{statement}
 use Rattle.calls.proofs.write_call.Tie as tie
 
 slice-relend-prefix-bytes : tie.Need-slice-relend-prefix-bytes
-slice-relend-prefix-bytes c =
-    let start = c .before .before .before .before .before in
-    omega (arith, data-short (start .args .line .now) (start .args .placed .at) (start .pre .0 .1), start .pre .0 .2, start .pre .1)
+slice-relend-prefix-bytes c = search needs
 
 slice-aggregate-bytes : tie.Need-slice-aggregate-bytes
-slice-aggregate-bytes c =
-    let start = c .before .before .before .before .before .before in
-    simp length-take (omega (arith, data-short (start .args .line .now) (start .args .placed .at) (start .pre .0 .1), start .pre .0 .2, start .pre .1))
+slice-aggregate-bytes c = simp length-take (omega (arith, c .before .before .before .before .before .before .pre .0 .2))
 
 write-bytes-requires : tie.Need-write-bytes-requires
 write-bytes-requires c κs =
     let start = c .before .before .before .before .before .before .before .before .before in
-    ((start .pre .0 .0, start .pre .0 .1), simp length-take (omega (arith, data-short (start .args .line .now) (start .args .placed .at) (start .pre .0 .1), start .pre .0 .2, start .pre .1)))
+    ((start .pre .0 .0, start .pre .0 .1), simp length-take (omega (arith, start .pre .0 .2, start .pre .1)))
 
 same-length : tie.Need-same-length
 same-length c = search needs

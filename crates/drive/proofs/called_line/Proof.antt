@@ -3,27 +3,29 @@ use lib.ListN.{length-take}
 use native.Mathlib.Omega.{arith}
 use borrow.Author.Needs.{needs}
 use Rattle.calls.proofs.Asked.{two-small}
+use Rattle.frame.proofs.Fits.{fits-digits}
 use Rattle.geometry.specs.Geometry.{device}
 use Rattle.model.specs.Driving.{bytesOf, allowance}
 use Rattle.drive.proofs.Lines.{line-called, line-stores, line-room}
-use Rattle.drive.proofs.Requests.{read-short}
+use Rattle.drive.proofs.Requests.{asked-framed, read-short}
 use Rattle.drive.proofs.called_line.Statement.{statement}
 use Rattle.drive.proofs.called_line.Tie as tie
 
 make-in-arrays-requires : tie.Need-make-in-arrays-requires
-make-in-arrays-requires c κs = let p = c .before .before .before .before .before .before .before .before .before .before .pre in (p .0, (p .1 .1 .buffer-room, (p .1 .0, p .1 .2)))
+make-in-arrays-requires c κs = let p = c .before .before .before .before .before .before .before .before .before .before .pre in
+    (asked-framed (c .before .before .before .before .before .before .before .before .before .before .args .line .now) (p .0 .0) (p .0 .1), (p .1 .1 .buffer-room, (p .1 .0, p .1 .2)))
 
 slice-reshare-prefix-print : tie.Need-slice-reshare-prefix-print
 slice-reshare-prefix-print c =
     let make-in-arrays = c .before .before .before .before .before .before .before .before .before .make-in-arrays in
     let buffer = c .before .before .before .before .before .before .before .before .buffer in
-    let start = c .before .before .before .before .before .before .before .before .before .before .before .before .before .before .before .before .before .before .before .before in omega (arith, make-in-arrays .ensures .1, read-short (start .args .z) (start .args .line .now) (start .pre .0 .0), buffer .given, start .pre .1 .1 .buffer-room)
+    let start = c .before .before .before .before .before .before .before .before .before .before .before .before .before .before .before .before .before .before .before .before in omega (arith, make-in-arrays .ensures .1, read-short (start .args .z) (start .args .line .now) (fits-digits (start .args .line .now) (start .pre .0 .0)), buffer .given, start .pre .1 .1 .buffer-room)
 
 slice-aggregate-print : tie.Need-slice-aggregate-print
 slice-aggregate-print c =
     let make-in-arrays = c .before .before .before .before .before .before .before .before .before .before .make-in-arrays in
     let buffer = c .before .before .before .before .before .before .before .before .before .buffer in
-    let start = c .before .before .before .before .before .before .before .before .before .before .before .before .before .before .before .before .before .before .before .before .before in simp length-take (omega (arith, make-in-arrays .ensures .1, read-short (start .args .z) (start .args .line .now) (start .pre .0 .0), buffer .given, start .pre .1 .1 .buffer-room))
+    let start = c .before .before .before .before .before .before .before .before .before .before .before .before .before .before .before .before .before .before .before .before .before in simp length-take (omega (arith, make-in-arrays .ensures .1, read-short (start .args .z) (start .args .line .now) (fits-digits (start .args .line .now) (start .pre .0 .0)), buffer .given, start .pre .1 .1 .buffer-room))
 
 print-requires : tie.Need-print-requires
 unfolding allowance
@@ -34,7 +36,7 @@ print-requires c κs =
     let d = device (a .flash .now) (a .spare .now) (a .disk .now) in
     let made = make-in-arrays .ensures in
     let room = start .pre .1 .1 .out-room in (
-      omega (arith, line-stores (a .z) (a .format) (a .r) d (bytesOf (a .line .now)) _ (made .0), two-small (a .line .now) 1 (start .pre .0 .0)),
+      omega (arith, line-stores (a .z) (a .format) (a .r) d (bytesOf (a .line .now)) _ (made .0), two-small (a .line .now) 1 (fits-digits (a .line .now) (start .pre .0 .0))),
       omega arith,
       λ e. simp length-take (omega (arith, line-room (a .z) (a .format) (a .r) d (bytesOf (a .line .now)) _ (made .0) e, made .1, start .pre .1 .2 .disk-room)),
     )

@@ -5,7 +5,7 @@ use Prim.Native.Nat.{ℕ}
 use borrow.Author.Needs.{needs}
 use Rattle.model.specs.declared.Sizes.{Sizes}
 use Rattle.model.specs.Driving.{bytesOf, noCall}
-use Rattle.drive.proofs.Asking.{line-unmade, line-made}
+use Rattle.drive.proofs.Asking.{line-unmade, line-made, asked-held}
 use Rattle.drive.proofs.Kept.{kept-ready}
 use Rattle.drive.proofs.Texts.{no-call-line}
 use Rattle.drive.specs.Asking.{sizesAsked}
@@ -43,7 +43,7 @@ called-line-requires c κs =
     let r = recorderOf (a .r) (a .flash .now) (a .spare .now) (a .disk .now) in
     let asked = asks .ensures in
     let made = line-made r (a .line .now) (request-of .result) (request-of .ensures) (sym (asked .0) ∙ c .before .before .before .before .before .before .if1 .left) in
-    ((made .0, request-of .ensures), (start .pre .0, start .pre .1, rw (asked .1) (made .2 (start .pre .2))))
+    ((made .0, request-of .ensures), (start .pre .0, start .pre .1, rw (asked .1) (asked-held (a .r .formatted) (a .r .sizes) (start .pre .2) (request-of .result) (sym (asked .0) ∙ c .before .before .before .before .before .before .if1 .left))))
 
 same-length-2 : tie.Need-same-length-2
 same-length-2 c = search needs

@@ -6,12 +6,11 @@ use lib.ListN.{length, drop}
 use lib.Seq.{take-all}
 use Rattle.lists.specs.Lists.{part}
 use Rattle.model.specs.Driving.{bytesOf}
-use Rattle.frame.proofs.Fits.{fits-digits}
 use Rattle.frame.proofs.write_data.Statement.{statement}
 use Rattle.frame.proofs.write_data.Tie as tie
 
 decode-requires : tie.Need-decode-requires
-decode-requires c κs = let given = c .before .before .before in (fits-digits (given .args .line .now) (given .pre .0), omega arith)
+decode-requires c κs = search needs
 
 same-length : tie.Need-same-length
 same-length c = search needs

@@ -36,7 +36,9 @@ part-gather-end : tie.Need-part-gather-end Inv-loop μ-loop
 part-gather-end c = search needs
 
 gather-requires : tie.Need-gather-requires Inv-loop μ-loop
-gather-requires c κs = (c .before .before .before .before .before .before .before .loop .inv .sound .line-room, c .before .before .before .before .before .before .before .loop .inv .sound .held-room)
+gather-requires c κs =
+    let sound = c .before .before .before .before .before .before .before .loop .inv .sound in
+    omega (arith, sound .line-room, sound .held-room)
 
 slice-reshare-prefix-on-line : tie.Need-slice-reshare-prefix-on-line Inv-loop μ-loop
 slice-reshare-prefix-on-line c = search needs
@@ -92,7 +94,7 @@ loop-again c =
     let flash = c .before .before .before .before .before .before .before .before .before .flash in
     let if3 = c .before .before .before .before .before .before .before .before .before .before .before .before .before .before .before .before .before .before .before .if3 in
     let l = c .before .before .before .before .before .before .before .before .before .before .before .before .before .before .before .before .before .before .before .before .before .before .before .before .before .before .before .before .before .before .loop in let g = c .before .before .before .before .before .before .before .before .before .before .before .before .before .before .before .before .before .before .before .before .before .before .gather in let o = c .before .before .before .before .before .before .before .before .before .before .before .before .on-line in
-    walked-on _ _ _ _ _ _ _ _ (l .walk) (l .line) (l .buffer) (l .flash) (l .spare) (l .disk) (l .out) (l .inv) (if1 .taken) (line-end .result) (line-end .ensures .0) (line-end .ensures .1) (g .result) (g .last .0) (g .ensures .0) (g .ensures .1) (line .given) (o .result) _ _ _ _ (o .last .1 .1 .1 .1 .1 .1 .0) (drop (length (l .out) - l .walk .printed) (drop (l .walk .printed) (l .out))) (o .ensures .0) (o .ensures .1 .0) (o .ensures .1 .1) (buffer .given) (flash .given) (c .before .before .before .before .before .before .before .spare .given) (c .before .before .before .before .before .disk .given) (omega (arith, behind-length (l .out) (o .last .1 .1 .1 .1 .1 .1 .0) (l .walk .printed) (l .inv .sound .printed-room), c .before .before .before .out .given)) (if3 .taken)
+    walked-on _ _ _ _ _ _ _ _ (l .walk) (l .line) (l .buffer) (l .flash) (l .spare) (l .disk) (l .out) (l .inv) (if1 .taken) (line-end .result) (line-end .ensures .0) (line-end .ensures .1) (g .result) (g .last .0) (omega (arith, g .ensures .0, l .inv .sound .line-room)) (rw (l .inv .sound .line-room) at (g .ensures .1)) (line .given) (o .result) _ _ _ _ (o .last .1 .1 .1 .1 .1 .1 .0) (drop (length (l .out) - l .walk .printed) (drop (l .walk .printed) (l .out))) (o .ensures .0) (o .ensures .1 .0) (o .ensures .1 .1) (buffer .given) (flash .given) (c .before .before .before .before .before .before .before .spare .given) (c .before .before .before .before .before .disk .given) (omega (arith, behind-length (l .out) (o .last .1 .1 .1 .1 .1 .1 .0) (l .walk .printed) (l .inv .sound .printed-room), c .before .before .before .out .given)) (if3 .taken)
 
 loop-less-2 : tie.Need-loop-less-2 Inv-loop μ-loop
 loop-less-2 c =
@@ -104,7 +106,7 @@ unfolding part
 loop-again-2 c =
     let if1 = c .before .before .before .before .before .before .before .before .before .if1 in
     let l = c .before .before .before .before .before .before .before .before .before .before .before .loop in let g = c .before .before .before .gather in
-    held-on _ _ _ _ _ _ _ _ (l .walk) (l .line) (l .buffer) (l .flash) (l .spare) (l .disk) (l .out) (l .inv) (if1 .taken) (c .before .before .before .before .before .before .line-end .result) (c .before .before .before .before .before .before .line-end .ensures .0) (c .before .before .before .before .before .before .line-end .ensures .1) (g .result) (g .last .0) (g .ensures .0) (g .ensures .1) (c .before .before .line .given) (omega (arith, c .if3 .left))
+    held-on _ _ _ _ _ _ _ _ (l .walk) (l .line) (l .buffer) (l .flash) (l .spare) (l .disk) (l .out) (l .inv) (if1 .taken) (c .before .before .before .before .before .before .line-end .result) (c .before .before .before .before .before .before .line-end .ensures .0) (c .before .before .before .before .before .before .line-end .ensures .1) (g .result) (g .last .0) (omega (arith, g .ensures .0, l .inv .sound .line-room)) (rw (l .inv .sound .line-room) at (g .ensures .1)) (c .before .before .line .given) (omega (arith, c .if3 .left))
 
 same-length : tie.Need-same-length Inv-loop μ-loop
 same-length c = c .before .before .before .before .loop .inv .line-same

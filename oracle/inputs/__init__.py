@@ -1,0 +1,1 @@
+"""Random inputs for the driving program and the workbench."""

@@ -1,0 +1,114 @@
+"""Images made up by the page rules, and states that fit them."""
+
+from inputs.form import BLANK, QUEUES, spare_text
+from inputs.situation import formatted
+
+READ, WRITE, DIRTY = 1, 2, 3
+LAST_EPOCH = 2 ** 32 - 1
+EPOCH_END = LAST_EPOCH + 1
+
+
+def log(kind, epoch, back_end, offset, length, pages):
+    """The spare areas of a whole log."""
+    return [{"kind": kind, "ordinal": ordinal, "pages": pages, "zero": 0, "epoch": epoch,
+             "back_end": back_end, "zeros": 0, "offset": offset, "length": length - 1}
+            for ordinal in range(pages)]
+
+
+def copy_of(z, kind, epoch, back_end):
+    return log(kind, epoch, back_end, 0, z.P * z.S, z.P)
+
+
+def any_log(rng, z, epoch, back_end, pages):
+    """A log of so many pages, anywhere in its back-end bucket."""
+    length = rng.randint((pages - 1) * z.S + 1, pages * z.S)
+    offset = rng.choice([0, z.P * z.S - length, rng.randint(0, z.P * z.S - length)])
+    return log(WRITE, epoch, back_end, offset, length, pages)
+
+
+def any_logs(rng, z, epoch, back_end):
+    """Logs one after the other; some are abandoned, and the last one may lack pages."""
+    spares, most = [], rng.randint(1, z.P)
+    while len(spares) < most:
+        pages = any_log(rng, z, epoch, back_end, rng.randint(1, z.P))
+        spares += pages if rng.random() < 0.8 else pages[:rng.randint(1, len(pages))]
+    return spares[:most]
+
+
+def any_bucket(rng, z, epoch, back_end, writes):
+    """The spare areas of a bucket's first pages; the others are blank."""
+    if rng.random() < 0.25:
+        return []
+    if rng.random() < writes:
+        return any_logs(rng, z, epoch, back_end)
+    pages = copy_of(z, rng.choice([READ, DIRTY]), epoch, back_end)
+    return pages if rng.random() < 0.75 else pages[:rng.randint(1, z.P)]
+
+
+def fill(rng, situation, bucket, spares):
+    """Puts pages with any data into a blank bucket."""
+    for page, spare in enumerate(spares):
+        situation.pages[bucket, page] = (spare_text(spare), rng.randbytes(situation.sizes.S).hex().upper())
+
+
+def some_epochs(rng, count):
+    """Different epochs, sometimes the last ones there are."""
+    low = rng.choice([1, 1, 1, 250, EPOCH_END - 2 * count])
+    return rng.sample(range(low, low + 2 * count), count)
+
+
+def made_up(rng, z):
+    """An image by the page rules with a state to it; of few back-end buckets, which meet often, or of many."""
+    situation = formatted(z)
+    back_ends = [rng.randrange(z.B) for _ in range(rng.choice([rng.randint(1, 4), z.C // 2, 2 * z.B]))]
+    writes = rng.choice([0.3, 0.5, 0.8])
+    for bucket, epoch in enumerate(some_epochs(rng, z.C)):
+        fill(rng, situation, bucket, any_bucket(rng, z, epoch, rng.choice(back_ends), writes))
+    if rng.random() < 0.5:
+        odd_blanks(rng, situation)
+    queue_up(rng, situation)
+    situation.state.values.update(count=rng.choice([0, 14, 15, rng.randrange(16)]),
+                                  epoch=next_epoch(rng, situation))
+    return situation
+
+
+def odd_blanks(rng, situation):
+    """Blank pages whose data bytes are not FF: only the spare area makes a page blank."""
+    for place, (spare, _) in situation.pages.items():
+        if spare == BLANK:
+            situation.pages[place] = (BLANK, rng.randbytes(situation.sizes.S).hex().upper())
+
+
+def next_epoch(rng, situation):
+    lowest = max(situation.epochs(), default=0) + 1
+    return rng.choice([lowest, min(lowest + rng.randint(0, 9), EPOCH_END),
+                       max(lowest, EPOCH_END - rng.randint(0, 4))])
+
+
+def queue_up(rng, situation):
+    """Puts each bucket into a queue that it fits, in any order."""
+    z, queues = situation.sizes, {name: [] for name in QUEUES}
+    for bucket in rng.sample(range(z.C), z.C):
+        queue, back_end = wanted_queue(situation, bucket)
+        full = {"reads": z.R, "writes": z.W}.get(queue, z.C) == len(queues[queue])
+        twice = any(entry.get("back_end", -1) == back_end for entry in queues[queue])
+        if full or twice or rng.random() < 0.1:
+            queue = "gc"
+        queues[queue].append(entry_for(queue, bucket, back_end, rng.choice([0, 0, 1, rng.randint(0, z.P)])))
+    situation.state.queues = queues
+
+
+def wanted_queue(situation, bucket):
+    """The queue that a bucket belongs to by its pages, and its back-end bucket."""
+    spares = [spare for spare in situation.spares(bucket) if spare is not None]
+    if not spares:
+        return "free", None
+    back_end = spares[0]["back_end"]
+    if spares[0]["kind"] == WRITE:
+        return "writes", back_end
+    return ("reads" if len(spares) == situation.sizes.P else "gc"), back_end
+
+
+def entry_for(queue, bucket, back_end, priority):
+    values = {"bucket": bucket, "back_end": back_end, "priority": priority}
+    return {name: values[name] for name, _ in QUEUES[queue][2]}

@@ -1,0 +1,184 @@
+"""The clauses of number 5: changes of a rich situation that make exactly one of them false, or just not.
+
+Each takes the generator, the rich situation and the copy of it that is changed.
+"""
+
+from functools import partial
+
+from inputs.images import EPOCH_END, any_log, entry_for
+from inputs.rich import ROLES
+
+
+class Impossible(Exception):
+    """There is no such change at these sizes."""
+
+
+def need(holds):
+    if not holds:
+        raise Impossible
+
+
+def entry_of(rich, s, role):
+    """The entry of a role's bucket."""
+    queue = ROLES[role][0]
+    return next(entry for entry in s.queue(queue) if entry["bucket"] == rich.buckets[role])
+
+
+def moved(role, to, rng, rich, s):
+    """A role's bucket in another queue, where there is room for it: no length depends on R and W."""
+    s.queue(ROLES[role][0]).remove(entry_of(rich, s, role))
+    s.queue(to).append(entry_for(to, rich.buckets[role], rich.back_end(role), rng.randint(0, s.sizes.P)))
+    values = s.state.values
+    values["R"] = max(values["R"], len(s.queue("reads")))
+    values["W"] = max(values["W"], len(s.queue("writes")))
+
+
+def unused_epoch(s):
+    """The highest below the highest that no bucket has."""
+    epoch = next(epoch for epoch in range(max(s.epochs()), -1, -1) if epoch not in s.epochs())
+    need(epoch > 0)
+    return epoch
+
+
+# Each cache bucket once
+
+def missing(queue, rng, _, s):
+    s.queue(queue).pop(rng.randrange(len(s.queue(queue))))
+
+
+def read_twice(_, rich, s):
+    """In the read queue and in GC, in place of another copy of the same back-end bucket."""
+    entry_of(rich, s, "copy")["bucket"] = rich.buckets["second copy"]
+
+
+def written_twice(_, rich, s):
+    entry_of(rich, s, "over disk")["bucket"] = rich.buckets["second write"]
+
+
+def collected_twice(rng, rich, s):
+    """In GC and in any queue, in place of the blank one."""
+    others = [entry["bucket"] for entry in s.state.entries() if entry["bucket"] != rich.buckets["blank"]]
+    entry_of(rich, s, "blank")["bucket"] = rng.choice(others)
+
+
+def free_twice(rng, _, s):
+    one, two = rng.sample(s.queue("free"), 2)
+    one["bucket"] = two["bucket"]
+
+
+def one_too_many(queue, rng, rich, s):
+    """All there, and one more that is there already."""
+    bucket = rng.choice(s.queue("free"))["bucket"] if queue == "free" else rng.choice(list(rich.buckets.values()))
+    s.queue(queue).append({"bucket": bucket})
+
+
+def too_high(queue, rng, rich, s):
+    """A bucket that is not there, in place of one that is."""
+    entry = rng.choice(s.queue("free")) if queue == "free" else entry_of(rich, s, "blank")
+    entry["bucket"] = rng.choice([s.sizes.C, 255])
+
+
+def one_more_too_high(queue, rng, _, s):
+    s.queue(queue).append({"bucket": rng.choice([s.sizes.C, 255])})
+
+
+def queued_too_high(queue, rng, _, s):
+    rng.choice(s.queue(queue))["bucket"] = rng.choice([s.sizes.C, 255])
+
+
+# A queue too long, a back-end bucket mapped twice
+
+def limit(name, queue, less, _, __, s):
+    """R or W is as many as there are, or less."""
+    s.state.values[name] = len(s.queue(queue)) - less
+
+
+def moved_too_many(role, to, name, rng, rich, s):
+    moved(role, to, rng, rich, s)
+    limit(name, to, 1, rng, rich, s)
+
+
+# Entries and the spare fields
+
+def other_back_end(queue, beyond, rng, _, s):
+    mapped = [entry["back_end"] for entry in s.queue(queue)]
+    others = [b for b in range(s.sizes.B) if b not in mapped]
+    rng.choice(s.queue(queue))["back_end"] = rng.choice([s.sizes.B, 65535] if beyond else others)
+
+
+def blank_queued(queue, rng, rich, s):
+    mapped = [entry["back_end"] for entry in s.queue(queue)]
+    moved("blank", queue, rng, rich, s)
+    if 0 not in mapped:
+        s.queue(queue)[-1]["back_end"] = 0
+
+
+def incomplete(rng, rich, s):
+    need(s.sizes.P > 1)
+    moved("part of copy", "reads", rng, rich, s)
+
+
+def last_page_blank(rng, rich, s):
+    need(s.sizes.P > 1)
+    s.put(rich.buckets[rng.choice(["copy", "dirty"])], s.sizes.P - 1, None)
+
+
+def page_in_free(rng, rich, s):
+    spare, = any_log(rng, s.sizes, unused_epoch(s), rich.back_ends[0], 1)
+    s.put(rng.choice(s.queue("free"))["bucket"], 0, spare)
+
+
+# Numbers
+
+def priority(above, rng, _, s):
+    rng.choice(s.queue("writes"))["priority"] = min(s.sizes.P + above, 255)
+
+
+def count(value, _, __, s):
+    s.state.values["count"] = value
+
+
+def epoch(value, _, __, s):
+    s.state.values["epoch"] = value
+
+
+def epoch_above_highest(more, _, __, s):
+    s.state.values["epoch"] = max(s.epochs()) + more
+
+
+def next_epoch_present(rng, _, s):
+    """A bucket of GC has the next epoch already."""
+    need(s.state.values["epoch"] < EPOCH_END)
+    bucket = rng.choice([entry["bucket"] for entry in s.queue("gc") if s.used(entry["bucket"])])
+    for page in s.used(bucket):
+        s.change(bucket, page, epoch=s.state.values["epoch"])
+
+
+def unchanged(*_):
+    pass
+
+
+CLAUSES = [
+    *(partial(missing, queue) for queue in ("reads", "writes", "gc", "free")),
+    read_twice, written_twice, collected_twice, free_twice,
+    *(partial(change, queue) for change in (one_too_many, too_high, one_more_too_high) for queue in ("gc", "free")),
+    *(partial(queued_too_high, queue) for queue in ("reads", "writes")),
+    *(partial(limit, name, queue, less) for name, queue in (("R", "reads"), ("W", "writes")) for less in (0, 1)),
+    partial(moved_too_many, "third copy", "reads", "R"), partial(moved_too_many, "long log", "writes", "W"),
+    # These fit, so that a fault is not in the move itself.
+    partial(moved, "third copy", "reads"), partial(moved, "long log", "writes"), partial(moved, "blank", "free"),
+    # Mapped twice
+    partial(moved, "second copy", "reads"), partial(moved, "second write", "writes"),
+    # Of another kind
+    partial(moved, "short logs", "reads"), partial(moved, "third copy", "writes"),
+    partial(moved, "part of copy", "writes"),
+    *(partial(other_back_end, queue, beyond) for queue in ("reads", "writes") for beyond in (False, True)),
+    *(partial(blank_queued, queue) for queue in ("reads", "writes")),
+    incomplete, last_page_blank, page_in_free,
+    *(partial(moved, role, "free") for role in ("third copy", "short logs", "part of copy")),
+    *(partial(priority, value) for value in (0, 1, 255)),
+    *(partial(count, value) for value in (15, 16, 255)),
+    *(partial(epoch, value) for value in (0, EPOCH_END, EPOCH_END + 1, 2 ** 63, 2 ** 64 - 1)),
+    *(partial(epoch_above_highest, more) for more in (0, 1, EPOCH_END + 1)),
+    next_epoch_present, unchanged,
+]
