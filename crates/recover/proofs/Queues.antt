@@ -37,10 +37,10 @@ pub chip-of : {z : Sizes} {flash spare disk : List ℕ} → Recoverable z flash 
 chip-of sound = record { limits = sound .limits; spare-length = sound .lent .spare-length }
 
 -- a column that was filled in the front of an array, lent again
-pub lent-again : (n : ℕ) (room : List ℕ) {last column : List ℕ} → last ≡ column → length column ≡ n → take n (last ++ drop n room) ≡ column
+lent-again : (n : ℕ) (room : List ℕ) {last column : List ℕ} → last ≡ column → length column ≡ n → take n (last ++ drop n room) ≡ column
 lent-again n room {last} e l = take-at last (drop n room) n (ap length e ∙ l) ∙ e
 
-pub lent-fits : (n : ℕ) (room : List ℕ) {last column : List ℕ} → last ≡ column → length column ≡ n → n ≤ length (last ++ drop n room)
+lent-fits : (n : ℕ) (room : List ℕ) {last column : List ℕ} → last ≡ column → length column ≡ n → n ≤ length (last ++ drop n room)
 lent-fits n room {last} e l = omega (arith, length-append last (drop n room), ap length e)
 
 -- ---- one turn of a loop
@@ -160,6 +160,14 @@ module _ (z : Sizes) (d : Device) where
 
   pub column-length : {order beside : List ℕ} (t : ℕ → Bool) → order ≡ inOrder z d → beside ≡ column z d t → length beside ≡ length order
   column-length t e k = ap length k ∙ length-map (inOrder z d) (named z d t) ∙ sym (ap length e)
+
+  -- a column beside the order, once it is filled in the front of an array
+  module _ (t : ℕ → Bool) {order : List ℕ} (o : order ≡ inOrder z d) (room : List ℕ) {last : List ℕ} (e : last ≡ column z d t) where
+    pub column-again : take (length order) (last ++ drop (length order) room) ≡ column z d t
+    column-again = lent-again (length order) room e (column-length t o refl)
+
+    pub column-fits : length order ≤ length (last ++ drop (length order) room)
+    column-fits = lent-fits (length order) room e (column-length t o refl)
 
   abbrev pub oldCopies : List ℕ
   oldCopies = byEpoch z d (buckets z d (isOldCopy z d))

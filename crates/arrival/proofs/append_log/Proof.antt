@@ -1,6 +1,7 @@
 use Rattle.arrival.proofs.Arrived.{blanks-most, appended-by}
 use Rattle.state.specs.View.{placesOf}
 use Rattle.image.specs.Chip.{spareOnly}
+use Rattle.meter.specs.Run.{running}
 use Rattle.geometry.proofs.Passed.{products}
 use Rattle.model.specs.Image.{blanks}
 use Rattle.model.specs.Sizes.{bucketSize}
@@ -83,7 +84,7 @@ returns c =
     let a = c .before .before .before .before .before .before .before .before .before .before .before .before .before .before .before .before .before .before .before .before .before .before .before .args in
     let written = c .before .before .before .before .before .before .before .program-log .ensures in (
       rw (written .0, c .accept .ensures)
-          (appended-by (a .s .sizes) (a .b) (a .offset) (a .bytes .now) (placesOf (a .s)) _ (cache-of .result) (blanks-then .result) (epoch-of .result) (pages-for .result) (cache-of .ensures) (blanks-then .ensures) (epoch-of .ensures) (pages-for .ensures)),
+          (appended-by (a .s .sizes) (a .b) (a .offset) (a .bytes .now) (placesOf (a .s)) (running (a .flash .now) (a .spare .now) (a .disk .now) (a .meter)) (cache-of .result) (blanks-then .result) (epoch-of .result) (pages-for .result) (cache-of .ensures) (blanks-then .ensures) (epoch-of .ensures) (pages-for .ensures)),
       written .1,
     )
 

@@ -22,21 +22,21 @@ returns c =
 well-formed-requires : tie.Need-well-formed-requires
 well-formed-requires c κs =
     let a = c .before .before .before .before .before .args in
-    chip-opens (a .z) (device (a .flash .now) (a .spare .now) (a .disk .now)) (sym (c .before .lent-refusal .ensures) ∙ c .if1 .left)
+    chip-opens (a .z) (device (a .flash .now) (a .spare .now) (a .disk .now)) (rw (c .before .lent-refusal .ensures) at (c .if1 .left))
 
 returns-2 : tie.Need-returns-2
 returns-2 c =
     let a = c .before .before .before .before .before .before .before .args in
     let d = device (a .flash .now) (a .spare .now) (a .disk .now) in
     let formed : wellFormed (a .z) d ≡ true = sym (c .before .well-formed .ensures ∙ same-well-formed (a .z) d) ∙ c .if2 .taken in
-    rw (image-rest (a .z) d (sym (c .before .before .before .lent-refusal .ensures) ∙ c .before .before .if1 .left), formed)
+    rw (image-rest (a .z) d (rw (c .before .before .before .lent-refusal .ensures) at (c .before .before .if1 .left)), formed)
 
 returns-3 : tie.Need-returns-3
 returns-3 c =
     let a = c .before .before .before .before .before .before .before .args in
     let d = device (a .flash .now) (a .spare .now) (a .disk .now) in
     let formed : wellFormed (a .z) d ≡ false = sym (c .before .well-formed .ensures ∙ same-well-formed (a .z) d) ∙ c .if2 .left in
-    rw (image-rest (a .z) d (sym (c .before .before .before .lent-refusal .ensures) ∙ c .before .before .if1 .left), formed)
+    rw (image-rest (a .z) d (rw (c .before .before .before .lent-refusal .ensures) at (c .before .before .if1 .left)), formed)
 
 pub image-refusal-spec : {M : Type 1} → statement M
 image-refusal-spec =

@@ -28,13 +28,13 @@ returns-2 c =
     let a = c .before .before .before .before .before .before .before .args in
     let d = device (a .flash .now) (a .spare .now) (a .disk .now) in
     let there : ltb (a .b) (a .s .sizes .b) ≡ false = le-ltb (a .b) (a .s .sizes .b) (c .if2 .taken) in
-    (rw (read-rest (viewOf (a .s)) d (a .b) (a .offset) (a .length) (sym (c .before .before .before .running-refusal .ensures .0) ∙ c .before .before .if1 .left), there), λ h. absurd (omega (arith, h)))
+    (rw (read-rest (viewOf (a .s)) d (a .b) (a .offset) (a .length) (rw (c .before .before .before .running-refusal .ensures .0) at (c .before .before .if1 .left)), there), λ h. absurd (omega (arith, h)))
 
 range-fits-requires : tie.Need-range-fits-requires
 unfolding viewOf
 range-fits-requires c κs =
     let a = c .before .before .before .before .before .before .before .args in
-    running-opens (viewOf (a .s)) (device (a .flash .now) (a .spare .now) (a .disk .now)) refl (sym (c .before .before .before .running-refusal .ensures .0) ∙ c .before .before .if1 .left) .image .limits
+    running-opens (viewOf (a .s)) (device (a .flash .now) (a .spare .now) (a .disk .now)) refl (rw (c .before .before .before .running-refusal .ensures .0) at (c .before .before .if1 .left)) .image .limits
 
 returns-3 : tie.Need-returns-3
 unfolding viewOf
@@ -43,7 +43,7 @@ returns-3 c =
     let d = device (a .flash .now) (a .spare .now) (a .disk .now) in
     let there : ltb (a .b) (a .s .sizes .b) ≡ true = lt-ltb (a .b) (a .s .sizes .b) (omega (arith, c .before .before .if2 .left)) in
     let fits : rangeFits (a .s .sizes) (a .offset) (a .length) ≡ true = sym (c .before .range-fits .ensures) ∙ c .if3 .taken in
-    (rw (read-rest (viewOf (a .s)) d (a .b) (a .offset) (a .length) (sym (c .before .before .before .before .before .running-refusal .ensures .0) ∙ c .before .before .before .before .if1 .left), there, fits), λ h. c .before .before .before .before .before .running-refusal .ensures .1 (c .before .before .before .before .if1 .left))
+    (rw (read-rest (viewOf (a .s)) d (a .b) (a .offset) (a .length) (rw (c .before .before .before .before .before .running-refusal .ensures .0) at (c .before .before .before .before .if1 .left)), there, fits), λ h. c .before .before .before .before .before .running-refusal .ensures .1 (c .before .before .before .before .if1 .left))
 
 returns-4 : tie.Need-returns-4
 unfolding viewOf
@@ -52,7 +52,7 @@ returns-4 c =
     let d = device (a .flash .now) (a .spare .now) (a .disk .now) in
     let there : ltb (a .b) (a .s .sizes .b) ≡ true = lt-ltb (a .b) (a .s .sizes .b) (omega (arith, c .before .before .if2 .left)) in
     let fits : rangeFits (a .s .sizes) (a .offset) (a .length) ≡ false = sym (c .before .range-fits .ensures) ∙ c .if3 .left in
-    (rw (read-rest (viewOf (a .s)) d (a .b) (a .offset) (a .length) (sym (c .before .before .before .before .before .running-refusal .ensures .0) ∙ c .before .before .before .before .if1 .left), there, fits), λ h. absurd (omega (arith, h)))
+    (rw (read-rest (viewOf (a .s)) d (a .b) (a .offset) (a .length) (rw (c .before .before .before .before .before .running-refusal .ensures .0) at (c .before .before .before .before .if1 .left)), there, fits), λ h. absurd (omega (arith, h)))
 
 pub read-refusal-spec : {M : Type 1} → statement M
 read-refusal-spec =

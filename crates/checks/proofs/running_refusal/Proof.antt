@@ -30,12 +30,12 @@ unfolding viewOf
 returns-2 c =
     let a = c .before .before .before .before .before .before .before .before .args in
     let d = device (a .flash .now) (a .spare .now) (a .disk .now) in
-    (rw (running-rest (viewOf (a .s)) d (sym (c .before .before .before .lent-refusal .ensures) ∙ c .before .before .if1 .left), not-true (a .s .running) (c .if2 .taken)), λ h. absurd (omega (arith, h)))
+    (rw (running-rest (viewOf (a .s)) d (rw (c .before .before .before .lent-refusal .ensures) at (c .before .before .if1 .left)), not-true (a .s .running) (c .if2 .taken)), λ h. absurd (omega (arith, h)))
 
 well-formed-requires : tie.Need-well-formed-requires
 well-formed-requires c κs =
     let a = c .before .before .before .before .before .before .before .before .args in
-    chip-opens (a .s .sizes) (device (a .flash .now) (a .spare .now) (a .disk .now)) (sym (c .before .before .before .lent-refusal .ensures) ∙ c .before .before .if1 .left)
+    chip-opens (a .s .sizes) (device (a .flash .now) (a .spare .now) (a .disk .now)) (rw (c .before .before .before .lent-refusal .ensures) at (c .before .before .if1 .left))
 
 returns-3 : tie.Need-returns-3
 unfolding viewOf
@@ -43,12 +43,12 @@ returns-3 c =
     let a = c .before .before .before .before .before .before .before .before .before .before .args in
     let d = device (a .flash .now) (a .spare .now) (a .disk .now) in
     let formed : wellFormed (a .s .sizes) d ≡ false = sym (c .before .well-formed .ensures ∙ same-well-formed (a .s .sizes) d) ∙ not-true (c .before .well-formed .result) (c .if3 .taken) in
-    (rw (running-rest (viewOf (a .s)) d (sym (c .before .before .before .before .before .lent-refusal .ensures) ∙ c .before .before .before .before .if1 .left), formed, not-false (a .s .running) (c .before .before .if2 .left)), λ h. absurd (omega (arith, h)))
+    (rw (running-rest (viewOf (a .s)) d (rw (c .before .before .before .before .before .lent-refusal .ensures) at (c .before .before .before .before .if1 .left)), formed, not-false (a .s .running) (c .before .before .if2 .left)), λ h. absurd (omega (arith, h)))
 
 state-fits-requires : tie.Need-state-fits-requires
 state-fits-requires c κs =
     let a = c .before .before .before .before .before .before .before .before .before .before .args in
-    (chip-opens (a .s .sizes) (device (a .flash .now) (a .spare .now) (a .disk .now)) (sym (c .before .before .before .before .before .lent-refusal .ensures) ∙ c .before .before .before .before .if1 .left), sym (c .before .well-formed .ensures) ∙ not-false (c .before .well-formed .result) (c .if3 .left))
+    (chip-opens (a .s .sizes) (device (a .flash .now) (a .spare .now) (a .disk .now)) (rw (c .before .before .before .before .before .lent-refusal .ensures) at (c .before .before .before .before .if1 .left)), sym (c .before .well-formed .ensures) ∙ not-false (c .before .well-formed .result) (c .if3 .left))
 
 returns-4 : tie.Need-returns-4
 unfolding viewOf
@@ -57,7 +57,7 @@ returns-4 c =
     let d = device (a .flash .now) (a .spare .now) (a .disk .now) in
     let formed : wellFormed (a .s .sizes) d ≡ true = sym (c .before .before .before .well-formed .ensures ∙ same-well-formed (a .s .sizes) d) ∙ not-false (c .before .before .before .well-formed .result) (c .before .before .if3 .left) in
     let fits : stateFits (viewOf (a .s)) d ≡ true = sym (c .before .state-fits .ensures .0 ∙ same-fits (viewOf (a .s)) d) ∙ c .if4 .taken in
-    (rw (running-rest (viewOf (a .s)) d (sym (c .before .before .before .before .before .before .before .lent-refusal .ensures) ∙ c .before .before .before .before .before .before .if1 .left), fits, formed, not-false (a .s .running) (c .before .before .before .before .if2 .left)), λ h. c .before .state-fits .ensures .1 (c .if4 .taken))
+    (rw (running-rest (viewOf (a .s)) d (rw (c .before .before .before .before .before .before .before .lent-refusal .ensures) at (c .before .before .before .before .before .before .if1 .left)), fits, formed, not-false (a .s .running) (c .before .before .before .before .if2 .left)), λ h. c .before .state-fits .ensures .1 (c .if4 .taken))
 
 returns-5 : tie.Need-returns-5
 unfolding viewOf
@@ -66,7 +66,7 @@ returns-5 c =
     let d = device (a .flash .now) (a .spare .now) (a .disk .now) in
     let formed : wellFormed (a .s .sizes) d ≡ true = sym (c .before .before .before .well-formed .ensures ∙ same-well-formed (a .s .sizes) d) ∙ not-false (c .before .before .before .well-formed .result) (c .before .before .if3 .left) in
     let fits : stateFits (viewOf (a .s)) d ≡ false = sym (c .before .state-fits .ensures .0 ∙ same-fits (viewOf (a .s)) d) ∙ c .if4 .left in
-    (rw (running-rest (viewOf (a .s)) d (sym (c .before .before .before .before .before .before .before .lent-refusal .ensures) ∙ c .before .before .before .before .before .before .if1 .left), fits, formed, not-false (a .s .running) (c .before .before .before .before .if2 .left)), λ h. absurd (omega (arith, h)))
+    (rw (running-rest (viewOf (a .s)) d (rw (c .before .before .before .before .before .before .before .lent-refusal .ensures) at (c .before .before .before .before .before .before .if1 .left)), fits, formed, not-false (a .s .running) (c .before .before .before .before .if2 .left)), λ h. absurd (omega (arith, h)))
 
 pub running-refusal-spec : {M : Type 1} → statement M
 running-refusal-spec =

@@ -1,5 +1,5 @@
 use mathlib.Core.Bool.{true, false}
-use mathlib.Core.Path.{_≡_, sym, ap, _∙_}
+use mathlib.Core.Path.{_≡_, ap, _∙_}
 use native.Mathlib.Omega.{arith}
 use lib.Dec.{leb}
 use borrow.Author.Tests.{le-leb, lt-leb}
@@ -32,7 +32,7 @@ returns-2 c =
     let a = c .before .before .before .before .before .before .before .args in
     let d = device (a .flash .now) (a .spare .now) (a .disk .now) in
     let epochs : leb (a .s .next) lastEpoch ≡ true = le-leb (a .s .next) lastEpoch (c .if2 .taken) in
-    (rw (write-rest (viewOf (a .s)) d (a .b) (a .offset) (a .length) (sym (c .before .before .before .read-refusal .ensures .0) ∙ c .before .before .if1 .left), epochs), λ h. c .before .before .before .read-refusal .ensures .1 (c .before .before .if1 .left))
+    (rw (write-rest (viewOf (a .s)) d (a .b) (a .offset) (a .length) (rw (c .before .before .before .read-refusal .ensures .0) at (c .before .before .if1 .left)), epochs), λ h. c .before .before .before .read-refusal .ensures .1 (c .before .before .if1 .left))
 
 returns-3 : tie.Need-returns-3
 unfolding viewOf
@@ -40,7 +40,7 @@ returns-3 c =
     let a = c .before .before .before .before .before .before .before .args in
     let d = device (a .flash .now) (a .spare .now) (a .disk .now) in
     let epochs : leb (a .s .next) lastEpoch ≡ false = lt-leb (a .s .next) lastEpoch (omega (arith, c .if2 .left)) in
-    (rw (write-rest (viewOf (a .s)) d (a .b) (a .offset) (a .length) (sym (c .before .before .before .read-refusal .ensures .0) ∙ c .before .before .if1 .left), epochs), λ h. absurd (omega (arith, h)))
+    (rw (write-rest (viewOf (a .s)) d (a .b) (a .offset) (a .length) (rw (c .before .before .before .read-refusal .ensures .0) at (c .before .before .if1 .left)), epochs), λ h. absurd (omega (arith, h)))
 
 pub write-refusal-spec : {M : Type 1} → statement M
 write-refusal-spec = tie.close (tie.spec read-refusal-requires returns returns-2 returns-3)

@@ -51,7 +51,7 @@ loop-again c = let l = c .before .before .before .loop in
       omega arith,
       length-set (l .out) (l .i) _ ∙ l .inv .1,
       l .inv .2,
-      fill-more (map f (x .order .now)) (x .out .now) (l .inv .2 ∙ sym k) (l .i) (l .inv .3) (omega arith) (c .named .ensures ∙ sym (mapped-at f (x .order .now) (l .i) 0 (omega arith))),
+      fill-more (map f (x .order .now)) (x .out .now) (l .inv .2 ∙ sym k) (l .i) (l .inv .3) (omega arith) (rw (← mapped-at f (x .order .now) (l .i) 0 (omega arith)) at (c .named .ensures)),
     )
 
 same-length : tie.Need-same-length Inv-loop μ-loop

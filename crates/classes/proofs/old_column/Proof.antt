@@ -62,8 +62,8 @@ loop-again c = let l = c .before .before .before .before .loop in let s = c .bef
     let inside = c .before .before .before .loop-test .taken in
     let bucket = getD (x .order .now) (l .i) 0 in
     let value : c .old-back .result ≡ f bucket =
-    c .old-back .ensures
-    ∙ rw (beside z d (s .pre .1 .1 .0) (l .i) inside (isChosen z d) (s .pre .1 .1 .1 .0)) (old-named z d (s .pre .0 .limits) (formed-of z d (s .pre .1 .0)) bucket (at-order z d (s .pre .1 .1 .0) (l .i) inside)) in (
+    rw (c .old-back .ensures, beside z d (s .pre .1 .1 .0) (l .i) inside (isChosen z d) (s .pre .1 .1 .1 .0))
+    (old-named z d (s .pre .0 .limits) (formed-of z d (s .pre .1 .0)) bucket (at-order z d (s .pre .1 .1 .0) (l .i) inside)) in (
       omega arith,
       l .inv .1,
       length-set (l .out) (l .i) _ ∙ l .inv .2,

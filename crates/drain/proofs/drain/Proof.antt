@@ -1,5 +1,4 @@
 use borrow.Author.Needs.{needs}
-use mathlib.Core.Path.{sym, _∙_}
 use Rattle.state.specs.View.{viewOf}
 use Rattle.geometry.specs.Geometry.{device}
 use Rattle.outcome.proofs.Ends.{handed-taken, handed-refused}
@@ -18,7 +17,7 @@ drain-whole-requires c κs =
     let a = c .before .before .before .before .before .before .before .before .before .before .before .args in
     let tested = c .before .before .before .before .running-refusal in
     let passed = c .before .before .before .if1 .taken in
-    let opened = running-opens (viewOf (a .s)) (device (a .flash .now) (a .spare .now) (a .disk .now)) (tested .ensures .1 passed) (sym (tested .ensures .0) ∙ passed) in
+    let opened = running-opens (viewOf (a .s)) (device (a .flash .now) (a .spare .now) (a .disk .now)) (tested .ensures .1 passed) (rw (tested .ensures .0) at passed) in
     (opened .image .lent, drains opened)
 
 refused-requires : tie.Need-refused-requires
@@ -40,8 +39,8 @@ returns c =
     let a = c .before .before .before .before .before .before .before .before .before .before .before .before .before .before .before .before .before .before .args in
     let tested = c .before .before .before .before .before .before .before .before .before .before .before .running-refusal in
     let passed = if1 .taken in
-    c .before .before .before .before .before .before .drain-whole .ensures
-    ∙ handed-taken (a .allowance) drainCall (a .s) (viewOf (a .s)) (device (a .flash .now) (a .spare .now) (a .disk .now)) (tested .ensures .1 passed) (sym (tested .ensures .0) ∙ passed)
+    rw (c .before .before .before .before .before .before .drain-whole .ensures)
+    (handed-taken (a .allowance) drainCall (a .s) (viewOf (a .s)) (device (a .flash .now) (a .spare .now) (a .disk .now)) (tested .ensures .1 passed) (rw (tested .ensures .0) at passed))
 
 same-length-4 : tie.Need-same-length-4
 same-length-4 c = search needs
@@ -57,7 +56,7 @@ unfolding viewOf tests refusal lentBuffer
 returns-2 c =
     let a = c .before .before .before .before .before .before .before .before .before .args in
     let tested = c .before .before .running-refusal in
-    rw (c .refused .ensures) (handed-refused (a .allowance) drainCall (a .s) (viewOf (a .s)) (device (a .flash .now) (a .spare .now) (a .disk .now)) (tested .result) (sym (tested .ensures .0)) (c .before .if1 .left))
+    rw (c .refused .ensures) (handed-refused (a .allowance) drainCall (a .s) (viewOf (a .s)) (device (a .flash .now) (a .spare .now) (a .disk .now)) (tested .result) (rw (tested .ensures .0)) (c .before .if1 .left))
 
 pub drain-spec : {M : Type 1} → statement M
 drain-spec =

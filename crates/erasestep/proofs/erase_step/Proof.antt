@@ -1,4 +1,3 @@
-use mathlib.Core.Path.{sym, _∙_}
 use Rattle.state.specs.View.{viewOf}
 use Rattle.geometry.specs.Geometry.{device}
 use Rattle.model.specs.Calls.{eraseCall, tests, refusal, planOf, lentBuffer}
@@ -17,7 +16,7 @@ erase-head-requires c κs =
     let a = c .before .before .before .before .before .before .before .before .before .before .before .args in
     let tested = c .before .before .before .before .running-refusal in
     let passed = c .before .before .before .if1 .taken in
-    let opened = running-opens (viewOf (a .s)) (device (a .flash .now) (a .spare .now) (a .disk .now)) (tested .ensures .1 passed) (sym (tested .ensures .0) ∙ passed) in
+    let opened = running-opens (viewOf (a .s)) (device (a .flash .now) (a .spare .now) (a .disk .now)) (tested .ensures .1 passed) (rw (tested .ensures .0) at passed) in
     (opened .image .lent, open-orderly opened)
 
 refused-requires : tie.Need-refused-requires
@@ -39,8 +38,8 @@ returns c =
     let a = c .before .before .before .before .before .before .before .before .before .before .before .before .before .before .before .before .before .before .args in
     let tested = c .before .before .before .before .before .before .before .before .before .before .before .running-refusal in
     let passed = if1 .taken in
-    c .before .before .before .before .before .before .erase-head .ensures
-    ∙ handed-taken (a .allowance) eraseCall (a .s) (viewOf (a .s)) (device (a .flash .now) (a .spare .now) (a .disk .now)) (tested .ensures .1 passed) (sym (tested .ensures .0) ∙ passed)
+    rw (c .before .before .before .before .before .before .erase-head .ensures)
+    (handed-taken (a .allowance) eraseCall (a .s) (viewOf (a .s)) (device (a .flash .now) (a .spare .now) (a .disk .now)) (tested .ensures .1 passed) (rw (tested .ensures .0) at passed))
 
 same-length-4 : tie.Need-same-length-4
 same-length-4 c = search needs
@@ -56,7 +55,7 @@ unfolding viewOf tests refusal lentBuffer
 returns-2 c =
     let a = c .before .before .before .before .before .before .before .before .before .args in
     let tested = c .before .before .running-refusal in
-    rw (c .refused .ensures) (handed-refused (a .allowance) eraseCall (a .s) (viewOf (a .s)) (device (a .flash .now) (a .spare .now) (a .disk .now)) (tested .result) (sym (tested .ensures .0)) (c .before .if1 .left))
+    rw (c .refused .ensures) (handed-refused (a .allowance) eraseCall (a .s) (viewOf (a .s)) (device (a .flash .now) (a .spare .now) (a .disk .now)) (tested .result) (rw (tested .ensures .0)) (c .before .if1 .left))
 
 pub erase-step-spec : {M : Type 1} → statement M
 erase-step-spec =

@@ -1,7 +1,8 @@
-use mathlib.Core.Path.{refl, _∙_}
+use mathlib.Core.Path.{refl}
 use lib.ListN.{length}
 use Rattle.evict.proofs.Evicted.{dropped-left, evicted-by}
 use Rattle.state.specs.View.{placesOf}
+use Rattle.meter.specs.Run.{running}
 use Rattle.gather.proofs.Gathered.{sources-of, all-shown}
 use native.Mathlib.Omega.{arith}
 use Rattle.evict.proofs.evict_by.Statement.{statement}
@@ -18,7 +19,8 @@ put-away-requires c κs = let p = c .before .before .before .before .before .bef
 
 drop-write-requires : tie.Need-drop-write-requires
 drop-write-requires c κs = let start = c .before .before .before .before .before .before .before .before .before .before .before .before .before .before .before .before .before .before .before .before .before .before .before in
-    dropped-left (placesOf (start .args .s)) (start .args .b) (start .pre .1 .0 .0) _ _ _ (c .before .before .before .before .before .before .before .put-away .ensures .0) .bounded
+    let a = start .args in
+    dropped-left (placesOf (a .s)) (a .b) (start .pre .1 .0 .0) _ _ (running (a .flash .now) (a .spare .now) (a .disk .now) (a .meter)) (c .before .before .before .before .before .before .before .put-away .ensures .0) .bounded
 
 same-length : tie.Need-same-length
 same-length c =
@@ -52,7 +54,7 @@ returns c =
     let evicts = start .pre .1 .0 .0 in
     let sources = sources-of (evicts .ready .orderly) (start .pre .1 .0 .1) (evicts .back) (start .pre .0) in
     let put = put-away .ensures in
-    (rw (c .drop-write .ensures) (evicted-by (placesOf (a .s)) (a .b) (start .pre .1 .0 .0) (a .s .sizes) _ _ (put .0) refl (merged-range .ensures ∙ all-shown sources (length (a .buffer .now)) (start .pre .1 .1))), put .1)
+    (rw (c .drop-write .ensures) (evicted-by (placesOf (a .s)) (a .b) (start .pre .1 .0 .0) (a .s .sizes) _ (running (a .flash .now) (a .spare .now) (a .disk .now) (a .meter)) (put .0) refl (rw (all-shown sources (length (a .buffer .now)) (start .pre .1 .1)) at (merged-range .ensures))), put .1)
 
 pub evict-by-spec : {M : Type 1} → statement M
 evict-by-spec =

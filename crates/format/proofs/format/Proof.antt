@@ -1,4 +1,4 @@
-use mathlib.Core.Path.{refl, sym, _∙_}
+use mathlib.Core.Path.{refl}
 use Rattle.geometry.specs.Geometry.{device}
 use Rattle.geometry.proofs.Passed.{lent-passed}
 use Rattle.model.specs.Calls.{formatCall, tests, refusal, planOf, lentBuffer}
@@ -14,7 +14,7 @@ lent-refusal-requires c κs = search needs
 format-chip-requires : tie.Need-format-chip-requires
 format-chip-requires c κs =
     let a = c .before .before .before .before .before .before .before .before .before .before .before .args in
-    lent-passed (a .z) (device (a .flash .now) (a .spare .now) (a .disk .now)) (sym (c .before .before .before .before .lent-refusal .ensures) ∙ c .before .before .before .if1 .taken)
+    lent-passed (a .z) (device (a .flash .now) (a .spare .now) (a .disk .now)) (rw (c .before .before .before .before .lent-refusal .ensures) at (c .before .before .before .if1 .taken))
 
 refused-requires : tie.Need-refused-requires
 refused-requires c κs = search needs
@@ -35,7 +35,7 @@ returns c =
     let if1 = c .before .before .before .before .before .before .before .before .before .before .if1 in
     let a = c .before .before .before .before .before .before .before .before .before .before .before .before .before .before .before .before .before .before .args in
     let d = device (a .flash .now) (a .spare .now) (a .disk .now) in
-    c .before .before .before .before .before .before .format-chip .ensures ∙ handed-taken (a .allowance) (formatCall (a .z)) (a .s) (viewOf (a .s)) d refl (sym (lent-refusal .ensures) ∙ if1 .taken)
+    rw (c .before .before .before .before .before .before .format-chip .ensures) (handed-taken (a .allowance) (formatCall (a .z)) (a .s) (viewOf (a .s)) d refl (rw (lent-refusal .ensures) at (if1 .taken)))
 
 same-length-4 : tie.Need-same-length-4
 same-length-4 c = search needs
@@ -51,7 +51,7 @@ unfolding tests refusal lentBuffer
 returns-2 c =
     let a = c .before .before .before .before .before .before .before .before .before .args in
     let d = device (a .flash .now) (a .spare .now) (a .disk .now) in
-    rw (c .refused .ensures) (handed-refused (a .allowance) (formatCall (a .z)) (a .s) (viewOf (a .s)) d (c .before .before .lent-refusal .result) (sym (c .before .before .lent-refusal .ensures)) (c .before .if1 .left))
+    rw (c .refused .ensures) (handed-refused (a .allowance) (formatCall (a .z)) (a .s) (viewOf (a .s)) d (c .before .before .lent-refusal .result) (rw (c .before .before .lent-refusal .ensures)) (c .before .if1 .left))
 
 pub format-spec : {M : Type 1} → statement M
 format-spec =

@@ -1,4 +1,3 @@
-use mathlib.Core.Path.{_∙_}
 use native.Mathlib.Omega.{arith}
 use lib.ListN.{length}
 use Rattle.model.specs.Sizes.{bucketSize}
@@ -40,7 +39,7 @@ returns c =
     let start = c .before .before .before .before .before .before .before .before .before .before .before .before .before .before .before .before .before .before .before .before .before in
     let a = start .args in
     let d = device (a .flash .now) (a .spare .now) (a .disk .now) in
-    let shown = piece-range .ensures ∙ bucket-shown (a .z) d (a .c) (length (a .buffer .now)) (start .pre .1 .1) in
+    let shown = rw (bucket-shown (a .z) d (a .c) (length (a .buffer .now)) (start .pre .1 .1)) at (piece-range .ensures) in
     (rw (← shown) (c .before .before .before .before .before .before .write-units .ensures .0), c .before .before .before .before .before .before .write-units .ensures .1)
 
 pub write-by-spec : {M : Type 1} → statement M

@@ -2,7 +2,6 @@ use Rattle.model.specs.Calls.{readCall, sizesOf}
 use Rattle.outcome.proofs.Ends.{step-left}
 use native.Mathlib.Omega.{arith}
 use lib.ListN.{length}
-use mathlib.Core.Path.{_∙_}
 use Rattle.gather.proofs.Gathered.{all-shown}
 use Rattle.model.specs.Steps.{merged}
 use Rattle.geometry.specs.Geometry.{device}
@@ -67,7 +66,7 @@ returns c =
     let z = a .s .sizes in
     let v = placesOf (a .s) in
     let d = device (a .flash .now) (a .spare .now) (a .disk .now) in
-    let bytes = merged-range .ensures ∙ all-shown (sources (start .pre .1 .0) (start .pre .0)) (length (a .bytes .now)) (start .pre .1 .1 .1) in
+    let bytes = rw (all-shown (sources (start .pre .1 .0) (start .pre .0)) (length (a .bytes .now)) (start .pre .1 .1 .1)) at (merged-range .ensures) in
     rw (c .finish .ensures)
     (handed-read (a .allowance) (a .s) d (copyOf z (a .b) (merged z v d (a .b))) (rw (bytes, whole .ensures) at (make-copy .ensures .0)) (a .b) (a .offset) (a .buffer .now) (rw bytes at (c .before .before .before .show .ensures)))
 

@@ -1,6 +1,6 @@
-use mathlib.Core.Path.{_∙_}
 use Rattle.read.proofs.Copies.{left-placed, copied}
 use Rattle.state.specs.View.{placesOf}
+use Rattle.meter.specs.Run.{running}
 use borrow.Author.Needs.{needs}
 use Rattle.read.proofs.make_copy.Statement.{statement}
 use Rattle.read.proofs.make_copy.Tie as tie
@@ -22,7 +22,7 @@ copy-requires c κs =
     let a = start .args in
     let p = start .pre in
     let room = room-for .ensures in
-    let left = left-placed (placesOf (a .s)) (p .1 .0) (p .1 .1) (a .b) (p .1 .2) _ (rw (holds .ensures) at (room .0)) in
+    let left = left-placed (placesOf (a .s)) (p .1 .0) (p .1 .1) (a .b) (p .1 .2) (running (a .flash .now) (a .spare .now) (a .disk .now) (a .meter)) (rw (holds .ensures) at (room .0)) in
     (rw (left .sizes) (room .1), left .copies)
 
 same-length : tie.Need-same-length
@@ -43,11 +43,12 @@ returns c =
     let a = start .args in
     let p = start .pre in
     let v = placesOf (a .s) in
+    let r = running (a .flash .now) (a .spare .now) (a .disk .now) (a .meter) in
     let held = holds .ensures in
     let room = rw held at (room-for .ensures .0) in
-    let left = left-placed v (p .1 .0) (p .1 .1) (a .b) (p .1 .2) _ room in
+    let left = left-placed v (p .1 .0) (p .1 .1) (a .b) (p .1 .2) r room in
     let made = c .before .before .before .before .before .before .copy .ensures in (
-      made .0 ∙ copied v (p .1 .0) (p .1 .1) (a .b) (p .1 .2) _ room (copy-kind .result) (a .bytes .now) (rw held at (copy-kind .ensures)),
+      rw (made .0) (copied v (p .1 .0) (p .1 .1) (a .b) (p .1 .2) r room (copy-kind .result) (a .bytes .now) (rw held at (copy-kind .ensures))),
       rw (left .sizes) at (made .1),
     )
 

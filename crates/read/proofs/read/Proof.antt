@@ -1,4 +1,3 @@
-use mathlib.Core.Path.{sym, _∙_}
 use lib.ListN.{length}
 use Rattle.model.specs.Calls.{readCall, tests, refusal, planOf, lentBuffer}
 use Rattle.geometry.specs.Geometry.{device}
@@ -19,7 +18,7 @@ read-bucket-requires c κs =
     let a = c .before .before .before .before .before .before .before .before .before .before .before .before .before .args in
     let tested = c .before .before .before .before .before .read-refusal in
     let passed = c .before .before .before .before .if1 .taken in
-    let opened = read-opens (viewOf (a .s)) (device (a .flash .now) (a .spare .now) (a .disk .now)) (tested .ensures .1 passed) (a .b) (a .offset) (length (a .buffer .now)) (sym (tested .ensures .0) ∙ passed) in
+    let opened = read-opens (viewOf (a .s)) (device (a .flash .now) (a .spare .now) (a .disk .now)) (tested .ensures .1 passed) (a .b) (a .offset) (length (a .buffer .now)) (rw (tested .ensures .0) at passed) in
     (opened .0 .image .lent, reads (opened .0) (opened .1))
 
 refused-requires : tie.Need-refused-requires
@@ -45,8 +44,8 @@ returns c =
     let a = c .before .before .before .before .before .before .before .before .before .before .before .before .before .before .before .before .before .before .before .before .before .before .args in
     let tested = c .before .before .before .before .before .before .before .before .before .before .before .before .before .before .read-refusal in
     let passed = if1 .taken in
-    read-bucket .ensures
-    ∙ handed-taken (a .allowance) (readCall (a .b) (a .offset) (a .buffer .now)) (a .s) (viewOf (a .s)) (device (a .flash .now) (a .spare .now) (a .disk .now)) (tested .ensures .1 passed) (sym (tested .ensures .0) ∙ passed)
+    rw (read-bucket .ensures)
+    (handed-taken (a .allowance) (readCall (a .b) (a .offset) (a .buffer .now)) (a .s) (viewOf (a .s)) (device (a .flash .now) (a .spare .now) (a .disk .now)) (tested .ensures .1 passed) (rw (tested .ensures .0) at passed))
 
 same-length-5 : tie.Need-same-length-5
 same-length-5 c = search needs
@@ -62,7 +61,7 @@ unfolding viewOf tests refusal lentBuffer
 returns-2 c =
     let a = c .before .before .before .before .before .before .before .before .before .before .args in
     let tested = c .before .before .read-refusal in
-    rw (c .refused .ensures) (handed-refused (a .allowance) (readCall (a .b) (a .offset) (a .buffer .now)) (a .s) (viewOf (a .s)) (device (a .flash .now) (a .spare .now) (a .disk .now)) (tested .result) (sym (tested .ensures .0)) (c .before .if1 .left))
+    rw (c .refused .ensures) (handed-refused (a .allowance) (readCall (a .b) (a .offset) (a .buffer .now)) (a .s) (viewOf (a .s)) (device (a .flash .now) (a .spare .now) (a .disk .now)) (tested .result) (rw (tested .ensures .0)) (c .before .if1 .left))
 
 pub read-spec : {M : Type 1} → statement M
 read-spec =

@@ -3,7 +3,7 @@ use Rattle.rules.proofs.SameSpare.{same-well-formed}
 use Rattle.checks.proofs.Opens.{image-opens}
 use Rattle.model.specs.Calls.{recoverCall, tests, refusal, planOf, lentBuffer}
 use Rattle.geometry.specs.Geometry.{device}
-use mathlib.Core.Path.{refl, sym, _∙_}
+use mathlib.Core.Path.{refl, _∙_}
 use borrow.Author.Needs.{needs}
 use Rattle.state.specs.View.{viewOf}
 use Rattle.recover.proofs.recover.Statement.{statement}
@@ -16,7 +16,7 @@ recover-chip-requires : tie.Need-recover-chip-requires
 recover-chip-requires c κs =
     let a = c .before .before .before .before .before .before .before .before .before .before .before .args in
     let d = device (a .flash .now) (a .spare .now) (a .disk .now) in
-    let opened = image-opens (a .z) d (sym (c .before .before .before .before .image-refusal .ensures) ∙ c .before .before .before .if1 .taken) in
+    let opened = image-opens (a .z) d (rw (c .before .before .before .before .image-refusal .ensures) at (c .before .before .before .if1 .taken)) in
     record { limits = opened .limits; lent = opened .lent; well-formed = same-well-formed (a .z) d ∙ opened .formed }
 
 refused-requires : tie.Need-refused-requires
@@ -38,7 +38,7 @@ returns c =
     let if1 = c .before .before .before .before .before .before .before .before .before .before .if1 in
     let a = c .before .before .before .before .before .before .before .before .before .before .before .before .before .before .before .before .before .before .args in
     let d = device (a .flash .now) (a .spare .now) (a .disk .now) in
-    c .before .before .before .before .before .before .recover-chip .ensures ∙ handed-taken (a .allowance) (recoverCall (a .z)) (a .s) (viewOf (a .s)) d refl (sym (image-refusal .ensures) ∙ if1 .taken)
+    rw (c .before .before .before .before .before .before .recover-chip .ensures) (handed-taken (a .allowance) (recoverCall (a .z)) (a .s) (viewOf (a .s)) d refl (rw (image-refusal .ensures) at (if1 .taken)))
 
 same-length-4 : tie.Need-same-length-4
 same-length-4 c = search needs
@@ -54,7 +54,7 @@ unfolding tests refusal lentBuffer
 returns-2 c =
     let a = c .before .before .before .before .before .before .before .before .before .args in
     let d = device (a .flash .now) (a .spare .now) (a .disk .now) in
-    rw (c .refused .ensures) (handed-refused (a .allowance) (recoverCall (a .z)) (a .s) (viewOf (a .s)) d (c .before .before .image-refusal .result) (sym (c .before .before .image-refusal .ensures)) (c .before .if1 .left))
+    rw (c .refused .ensures) (handed-refused (a .allowance) (recoverCall (a .z)) (a .s) (viewOf (a .s)) d (c .before .before .image-refusal .result) (rw (c .before .before .image-refusal .ensures)) (c .before .if1 .left))
 
 pub recover-spec : {M : Type 1} → statement M
 recover-spec =

@@ -1,5 +1,5 @@
 use native.Mathlib.Omega.{arith}
-use mathlib.Core.Path.{refl, _∙_}
+use mathlib.Core.Path.{refl}
 use Rattle.geometry.specs.Geometry.{device}
 use Rattle.model.specs.Calls.{recoverCall, sizesOf, doneAnswer, lentBuffer, readBuffer}
 use Rattle.model.specs.Recover.{recover}
@@ -43,7 +43,7 @@ returns c =
     let whole = c .before .before .before .before .before .before .before .before .before .before .before .whole in
     let a = c .before .before .before .before .before .before .before .before .before .before .before .before .before .before .before .before .before .before .before .before .before .before .args in
     let d = device (a .flash .now) (a .spare .now) (a .disk .now) in
-    rw (c .finish .ensures, recovered .ensures ∙ same-state (a .z) d)
+    rw (c .finish .ensures, recovered .ensures, same-state (a .z) d)
     (handed-quiet (a .allowance) (recoverCall (a .z)) (a .s) (viewOf (a .s)) d (recover (a .z) d) refl refl (rw (whole .ensures) at (c .before .before .before .before .before .before .before .rescue .ensures .0)))
 
 pub recover-by-spec : {M : Type 1} → statement M

@@ -1,7 +1,7 @@
-use Rattle.recover.proofs.Queues.{chip-of, lent-again, lent-fits, order-fits, column-length}
+use Rattle.recover.proofs.Queues.{chip-of, order-fits, column-length, column-again, column-fits}
 use Rattle.image.specs.Chip.{spareOnly}
 use Rattle.model.specs.Recover.{isChosen, isDroppedCopy}
-use mathlib.Core.Path.{refl, sym, ap, _∙_}
+use mathlib.Core.Path.{refl, sym}
 use native.Mathlib.Omega.{arith}
 use lib.Seq.{length-take-le}
 use lib.ListN.{length}
@@ -34,37 +34,36 @@ copy-columns-requires c κs = let s = c .before .before .before .before .before 
 
 array-share-prefix-copies : tie.Need-array-share-prefix-copies
 array-share-prefix-copies c = let s = c .before .before .before .before .before .before .before .before .before .before .before .before .before .before in let z = s .args .z in let d = spareOnly (s .args .spare .now) in
-    lent-fits (length (s .args .order .now)) (c .before .before .before .before .before .before .before .blank-column .result) (c .before .before .copy-columns .ensures .0) (column-length z d (isChosen z d) (s .pre .1 .0) refl)
+    column-fits z d (isChosen z d) (s .pre .1 .0) (c .before .before .before .before .before .before .before .blank-column .result) (c .before .before .copy-columns .ensures .0)
 
 slice-aggregate-recover-by : tie.Need-slice-aggregate-recover-by
 slice-aggregate-recover-by c =
     let blank-column = c .before .before .before .before .before .before .before .before .blank-column in
     let s = c .before .before .before .before .before .before .before .before .before .before .before .before .before .before .before in let z = s .args .z in let d = spareOnly (s .args .spare .now) in
-    sym (ap length (lent-again (length (s .args .order .now)) (blank-column .result) (c .before .before .before .copy-columns .ensures .0) (column-length z d (isChosen z d) (s .pre .1 .0) refl)) ∙ column-length z d (isChosen z d) (s .pre .1 .0) refl)
+    rw (column-again z d (isChosen z d) (s .pre .1 .0) (blank-column .result) (c .before .before .before .copy-columns .ensures .0)) (sym (column-length z d (isChosen z d) (s .pre .1 .0) refl))
 
 array-share-prefix-dropped : tie.Need-array-share-prefix-dropped
 array-share-prefix-dropped c = let s = c .before .before .before .before .before .before .before .before .before .before .before .before .before .before .before in let z = s .args .z in let d = spareOnly (s .args .spare .now) in
-    lent-fits (length (s .args .order .now)) (c .before .before .before .before .before .before .before .blank-column2 .result) (c .before .before .before .copy-columns .ensures .1) (column-length z d (isDroppedCopy z d) (s .pre .1 .0) refl)
+    column-fits z d (isDroppedCopy z d) (s .pre .1 .0) (c .before .before .before .before .before .before .before .blank-column2 .result) (c .before .before .before .copy-columns .ensures .1)
 
 slice-aggregate-recover-by-2 : tie.Need-slice-aggregate-recover-by-2
 slice-aggregate-recover-by-2 c =
     let blank-column2 = c .before .before .before .before .before .before .before .before .blank-column2 in
     let s = c .before .before .before .before .before .before .before .before .before .before .before .before .before .before .before .before in let z = s .args .z in let d = spareOnly (s .args .spare .now) in
-    sym (ap length (lent-again (length (s .args .order .now)) (blank-column2 .result) (c .before .before .before .before .copy-columns .ensures .1) (column-length z d (isDroppedCopy z d) (s .pre .1 .0) refl)) ∙ column-length z d (isDroppedCopy z d) (s .pre .1 .0) refl)
+    rw (column-again z d (isDroppedCopy z d) (s .pre .1 .0) (blank-column2 .result) (c .before .before .before .before .copy-columns .ensures .1)) (sym (column-length z d (isDroppedCopy z d) (s .pre .1 .0) refl))
 
 recover-by-requires : tie.Need-recover-by-requires
 recover-by-requires c κs =
     let blank-column = c .before .before .before .before .before .before .before .before .before .before .before .before .blank-column in
     let blank-column2 = c .before .before .before .before .before .before .before .before .before .before .before .blank-column2 in
-    let s = c .before .before .before .before .before .before .before .before .before .before .before .before .before .before .before .before .before .before .before in let z = s .args .z in let d = spareOnly (s .args .spare .now) in
-    let n = length (s .args .order .now) in (
+    let s = c .before .before .before .before .before .before .before .before .before .before .before .before .before .before .before .before .before .before .before in let z = s .args .z in let d = spareOnly (s .args .spare .now) in (
       s .pre .0,
       record {
         order-is = s .pre .1 .0;
         writes-are = s .pre .1 .1 .0;
         dropped-writes-are = s .pre .1 .1 .1;
-        copies-are = lent-again n (blank-column .result) (c .before .before .before .before .before .before .before .copy-columns .ensures .0) (column-length z d (isChosen z d) (s .pre .1 .0) refl);
-        dropped-copies-are = lent-again n (blank-column2 .result) (c .before .before .before .before .before .before .before .copy-columns .ensures .1) (column-length z d (isDroppedCopy z d) (s .pre .1 .0) refl);
+        copies-are = column-again z d (isChosen z d) (s .pre .1 .0) (blank-column .result) (c .before .before .before .before .before .before .before .copy-columns .ensures .0);
+        dropped-copies-are = column-again z d (isDroppedCopy z d) (s .pre .1 .0) (blank-column2 .result) (c .before .before .before .before .before .before .before .copy-columns .ensures .1);
       },
     )
 

@@ -1,8 +1,8 @@
-use Rattle.recover.proofs.Queues.{chip-of, lent-again, lent-fits, order-fits, column-length}
+use Rattle.recover.proofs.Queues.{chip-of, order-fits, column-length, column-again, column-fits}
 use Rattle.image.specs.Chip.{spareOnly}
 use Rattle.model.specs.Recover.{isDroppedWrite}
 use Rattle.model.specs.Image.{isWrite}
-use mathlib.Core.Path.{refl, sym, ap, _∙_}
+use mathlib.Core.Path.{refl, sym}
 use native.Mathlib.Omega.{arith}
 use lib.Seq.{length-take-le}
 use lib.ListN.{length}
@@ -35,36 +35,35 @@ write-columns-requires c κs = let s = c .before .before .before .before .before
 
 array-share-prefix-writes : tie.Need-array-share-prefix-writes
 array-share-prefix-writes c = let s = c .before .before .before .before .before .before .before .before .before .before .before .before in let z = s .args .z in let d = spareOnly (s .args .spare .now) in
-    lent-fits (length (s .args .order .now)) (c .before .before .before .before .before .before .before .blank-column .result) (c .before .before .write-columns .ensures .0) (column-length z d (isWrite z d) (s .pre .1) refl)
+    column-fits z d (isWrite z d) (s .pre .1) (c .before .before .before .before .before .before .before .blank-column .result) (c .before .before .write-columns .ensures .0)
 
 slice-aggregate-recover-copies : tie.Need-slice-aggregate-recover-copies
 slice-aggregate-recover-copies c =
     let blank-column = c .before .before .before .before .before .before .before .before .blank-column in
     let s = c .before .before .before .before .before .before .before .before .before .before .before .before .before in let z = s .args .z in let d = spareOnly (s .args .spare .now) in
-    sym (ap length (lent-again (length (s .args .order .now)) (blank-column .result) (c .before .before .before .write-columns .ensures .0) (column-length z d (isWrite z d) (s .pre .1) refl)) ∙ column-length z d (isWrite z d) (s .pre .1) refl)
+    rw (column-again z d (isWrite z d) (s .pre .1) (blank-column .result) (c .before .before .before .write-columns .ensures .0)) (sym (column-length z d (isWrite z d) (s .pre .1) refl))
 
 array-share-prefix-dropped : tie.Need-array-share-prefix-dropped
 array-share-prefix-dropped c = let s = c .before .before .before .before .before .before .before .before .before .before .before .before .before in let z = s .args .z in let d = spareOnly (s .args .spare .now) in
-    lent-fits (length (s .args .order .now)) (c .before .before .before .before .before .before .before .blank-column2 .result) (c .before .before .before .write-columns .ensures .1) (column-length z d (isDroppedWrite z d) (s .pre .1) refl)
+    column-fits z d (isDroppedWrite z d) (s .pre .1) (c .before .before .before .before .before .before .before .blank-column2 .result) (c .before .before .before .write-columns .ensures .1)
 
 slice-aggregate-recover-copies-2 : tie.Need-slice-aggregate-recover-copies-2
 slice-aggregate-recover-copies-2 c =
     let blank-column2 = c .before .before .before .before .before .before .before .before .blank-column2 in
     let s = c .before .before .before .before .before .before .before .before .before .before .before .before .before .before in let z = s .args .z in let d = spareOnly (s .args .spare .now) in
-    sym (ap length (lent-again (length (s .args .order .now)) (blank-column2 .result) (c .before .before .before .before .write-columns .ensures .1) (column-length z d (isDroppedWrite z d) (s .pre .1) refl)) ∙ column-length z d (isDroppedWrite z d) (s .pre .1) refl)
+    rw (column-again z d (isDroppedWrite z d) (s .pre .1) (blank-column2 .result) (c .before .before .before .before .write-columns .ensures .1)) (sym (column-length z d (isDroppedWrite z d) (s .pre .1) refl))
 
 recover-copies-requires : tie.Need-recover-copies-requires
 recover-copies-requires c κs =
     let blank-column = c .before .before .before .before .before .before .before .before .before .before .before .before .blank-column in
     let blank-column2 = c .before .before .before .before .before .before .before .before .before .before .before .blank-column2 in
-    let s = c .before .before .before .before .before .before .before .before .before .before .before .before .before .before .before .before .before in let z = s .args .z in let d = spareOnly (s .args .spare .now) in
-    let n = length (s .args .order .now) in (
+    let s = c .before .before .before .before .before .before .before .before .before .before .before .before .before .before .before .before .before in let z = s .args .z in let d = spareOnly (s .args .spare .now) in (
       s .pre .0,
       (
         s .pre .1,
         (
-          lent-again n (blank-column .result) (c .before .before .before .before .before .before .before .write-columns .ensures .0) (column-length z d (isWrite z d) (s .pre .1) refl),
-          lent-again n (blank-column2 .result) (c .before .before .before .before .before .before .before .write-columns .ensures .1) (column-length z d (isDroppedWrite z d) (s .pre .1) refl),
+          column-again z d (isWrite z d) (s .pre .1) (blank-column .result) (c .before .before .before .before .before .before .before .write-columns .ensures .0),
+          column-again z d (isDroppedWrite z d) (s .pre .1) (blank-column2 .result) (c .before .before .before .before .before .before .before .write-columns .ensures .1),
         ),
       ),
     )

@@ -1,6 +1,6 @@
 use mathlib.Core.List.{List, [], _++_, append-assoc}
 use Rattle.fifo.specs.declared.Fifo.{Fifo}
-use Rattle.recover.proofs.Queues.{oldCopies, droppedCopies, droppedWrites, gc-fits, gc-is, picked-old, picked-copies, picked-writes}
+use Rattle.recover.proofs.Queues.{column-again, column-fits, oldCopies, droppedCopies, droppedWrites, gc-fits, gc-is, picked-old, picked-copies, picked-writes}
 use Rattle.recover.specs.Kept.{picked}
 use Rattle.classes.proofs.Orders.{order-short}
 use Rattle.classes.specs.Columns.{inOrder, named, column}
@@ -12,7 +12,7 @@ use mathlib.Core.Bool.{Bool}
 use mathlib.Core.Path.{_≡_, sym, ap, _∙_}
 use Prim.Native.Nat.{ℕ, _≤_}
 use native.Mathlib.Omega.{arith}
-use lib.Seq.{length-take-le, take-at}
+use lib.Seq.{length-take-le}
 use lib.ListN.{length, take, drop, length-append, length-map}
 use borrow.Author.Needs.{needs}
 use Rattle.recover.proofs.retired.Statement.{statement}
@@ -29,9 +29,10 @@ beside s t = let z = s .args .z in let d = spareOnly (s .args .spare .now) in le
 -- the column of old copies, lent again
 again : (s : tie.Start) {last : List ℕ} → last ≡ column (s .args .z) (spareOnly (s .args .spare .now)) (isOldCopy (s .args .z) (spareOnly (s .args .spare .now))) → (room : List ℕ)
     → take (length (s .args .order .now)) (last ++ drop (length (s .args .order .now)) room) ≡ column (s .args .z) (spareOnly (s .args .spare .now)) (isOldCopy (s .args .z) (spareOnly (s .args .spare .now)))
-again s {last} e room =
-    let t = isOldCopy (s .args .z) (spareOnly (s .args .spare .now)) in
-    take-at last (drop (length (s .args .order .now)) room) (length (s .args .order .now)) (ap length e ∙ beside s t) ∙ e
+again s e room =
+    let z = s .args .z in
+    let d = spareOnly (s .args .spare .now) in
+    column-again z d (isOldCopy z d) (s .pre .1 .1 .0) room e
 
 -- what a column picks of the order
 listed : (s : tie.Start) (t : ℕ → Bool) → picked (column (s .args .z) (spareOnly (s .args .spare .now)) t) (s .args .order .now) ≡ picked (column (s .args .z) (spareOnly (s .args .spare .now)) t) (inOrder (s .args .z) (spareOnly (s .args .spare .now)))
@@ -70,7 +71,8 @@ old-column-requires c κs = let s = c .before .before .before .before .before .b
     (s .pre .0, (s .pre .1 .0, (s .pre .1 .1 .0, (s .pre .1 .1 .1 .1 .0, length-take-le (length (s .args .order .now)) (c .before .blank-column .result) (omega (arith, c .before .blank-column .ensures, short s))))))
 
 array-share-prefix-old : tie.Need-array-share-prefix-old
-array-share-prefix-old c = let s = c .before .before .before .before .before .before .before .before .before in omega (arith, length-append (c .before .old-column .last .1 .1 .1 .1 .0) (drop (length (s .args .order .now)) (c .before .before .before .blank-column .result)), ap length (c .before .old-column .ensures), beside s (isOldCopy (s .args .z) (spareOnly (s .args .spare .now))))
+array-share-prefix-old c = let s = c .before .before .before .before .before .before .before .before .before in let z = s .args .z in let d = spareOnly (s .args .spare .now) in
+    column-fits z d (isOldCopy z d) (s .pre .1 .1 .0) (c .before .before .before .blank-column .result) (c .before .old-column .ensures)
 
 slice-aggregate-gather : tie.Need-slice-aggregate-gather
 slice-aggregate-gather c = let s = c .before .before .before .before .before .before .before .before .before .before in let z = s .args .z in let d = spareOnly (s .args .spare .now) in

@@ -47,7 +47,7 @@ loop-less c = search needs
 loop-again : tie.Need-loop-again Inv-loop μ-loop
 loop-again c = let l = c .before .before .before .before .loop in
     let a = c .before .before .before .before .before .before .before .args in
-    let g : goesFirst (a .z) (spareOnly (a .spare .now)) (getD (a .t1) (l .i) noEntry) (l .least) ≡ true = sym (c .before .goes-first .ensures) ∙ c .if1 .taken in
+    let g : goesFirst (a .z) (spareOnly (a .spare .now)) (getD (a .t1) (l .i) noEntry) (l .least) ≡ true = rw (c .before .goes-first .ensures) at (c .if1 .taken) in
     (search needs, search needs, cache-below (a .z .c) (a .n) (a .t1) (l .i) (c .before .before .before .before .before .before .before .pre .1 .1) (omega arith) (omega arith), l .inv .3 ∙ least-step (a .z) (spareOnly (a .spare .now)) (l .least) (l .i) (a .n) (a .t1) (omega arith) (omega arith) true g, l .inv .4)
 
 loop-less-2 : tie.Need-loop-less-2 Inv-loop μ-loop
@@ -56,7 +56,7 @@ loop-less-2 c = search needs
 loop-again-2 : tie.Need-loop-again-2 Inv-loop μ-loop
 loop-again-2 c = let l = c .before .before .before .before .loop in
     let a = c .before .before .before .before .before .before .before .args in
-    let g : goesFirst (a .z) (spareOnly (a .spare .now)) (getD (a .t1) (l .i) noEntry) (l .least) ≡ false = sym (c .before .goes-first .ensures) ∙ c .if1 .left in
+    let g : goesFirst (a .z) (spareOnly (a .spare .now)) (getD (a .t1) (l .i) noEntry) (l .least) ≡ false = rw (c .before .goes-first .ensures) at (c .if1 .left) in
     (search needs, search needs, l .inv .2, l .inv .3 ∙ least-step (a .z) (spareOnly (a .spare .now)) (l .least) (l .i) (a .n) (a .t1) (omega arith) (omega arith) false g, l .inv .4)
 
 returns : tie.Need-returns Inv-loop μ-loop

@@ -8,7 +8,6 @@ use Rattle.model.specs.Calls.{writeCall, tests, refusal, planOf, lentBuffer}
 use Rattle.model.specs.Sizes.{bucketSize}
 use lib.ListN.{length}
 use native.Mathlib.Omega.{arith}
-use mathlib.Core.Path.{sym, _∙_}
 use borrow.Author.Needs.{needs}
 use Rattle.write.proofs.write.Statement.{statement}
 use Rattle.write.proofs.write.Tie as tie
@@ -22,7 +21,7 @@ cast-write-bytes c =
     let a = c .before .before .before .before .before .before .before .before .before .args in
     let tested = c .before .write-refusal in
     let passed = c .if1 .taken in
-    let opened = write-opens (viewOf (a .s)) (device (a .flash .now) (a .spare .now) (a .disk .now)) (tested .ensures .1 passed) (a .b) (a .offset) (length (a .bytes .now)) (sym (tested .ensures .0) ∙ passed) in
+    let opened = write-opens (viewOf (a .s)) (device (a .flash .now) (a .spare .now) (a .disk .now)) (tested .ensures .1 passed) (a .b) (a .offset) (length (a .bytes .now)) (rw (tested .ensures .0) at passed) in
     omega (arith, opened .1 .n-some, opened .1 .range-in, products (opened .0 .image .limits))
 
 write-bytes-requires : tie.Need-write-bytes-requires
@@ -31,7 +30,7 @@ write-bytes-requires c κs =
     let a = c .before .before .before .before .before .before .before .before .before .before .before .before .args in
     let tested = c .before .before .before .before .write-refusal in
     let passed = c .before .before .before .if1 .taken in
-    let opened = write-opens (viewOf (a .s)) (device (a .flash .now) (a .spare .now) (a .disk .now)) (tested .ensures .1 passed) (a .b) (a .offset) (length (a .bytes .now)) (sym (tested .ensures .0) ∙ passed) in
+    let opened = write-opens (viewOf (a .s)) (device (a .flash .now) (a .spare .now) (a .disk .now)) (tested .ensures .1 passed) (a .b) (a .offset) (length (a .bytes .now)) (rw (tested .ensures .0) at passed) in
     (opened .0 .image .lent, open-writes (opened .0) (opened .1) (opened .2))
 
 refused-requires : tie.Need-refused-requires
@@ -53,8 +52,8 @@ returns c =
     let a = c .before .before .before .before .before .before .before .before .before .before .before .before .before .before .before .before .before .before .before .args in
     let tested = c .before .before .before .before .before .before .before .before .before .before .before .write-refusal in
     let passed = if1 .taken in
-    c .before .before .before .before .before .before .write-bytes .ensures
-    ∙ handed-taken (a .allowance) (writeCall (a .b) (a .offset) (a .bytes .now)) (a .s) (viewOf (a .s)) (device (a .flash .now) (a .spare .now) (a .disk .now)) (tested .ensures .1 passed) (sym (tested .ensures .0) ∙ passed)
+    rw (c .before .before .before .before .before .before .write-bytes .ensures)
+    (handed-taken (a .allowance) (writeCall (a .b) (a .offset) (a .bytes .now)) (a .s) (viewOf (a .s)) (device (a .flash .now) (a .spare .now) (a .disk .now)) (tested .ensures .1 passed) (rw (tested .ensures .0) at passed))
 
 same-length-4 : tie.Need-same-length-4
 same-length-4 c = search needs
@@ -70,7 +69,7 @@ unfolding viewOf tests refusal lentBuffer
 returns-2 c =
     let a = c .before .before .before .before .before .before .before .before .before .before .args in
     let tested = c .before .before .write-refusal in
-    rw (c .refused .ensures) (handed-refused (a .allowance) (writeCall (a .b) (a .offset) (a .bytes .now)) (a .s) (viewOf (a .s)) (device (a .flash .now) (a .spare .now) (a .disk .now)) (tested .result) (sym (tested .ensures .0)) (c .before .if1 .left))
+    rw (c .refused .ensures) (handed-refused (a .allowance) (writeCall (a .b) (a .offset) (a .bytes .now)) (a .s) (viewOf (a .s)) (device (a .flash .now) (a .spare .now) (a .disk .now)) (tested .result) (rw (tested .ensures .0)) (c .before .if1 .left))
 
 pub write-spec : {M : Type 1} → statement M
 write-spec =

@@ -11,10 +11,11 @@ use Rattle.model.specs.Operations.{fits, write}
 use Rattle.model.specs.Sizes.{bucketSize, pagesFor, body}
 use Rattle.model.proofs.Limits.{on-chip}
 use Rattle.steps.specs.Turns.{after}
+use Rattle.meter.specs.Run.{running}
 use lib.ListN.{length}
 use native.Mathlib.Omega.{arith}
 use mathlib.Core.Bool.{true, false}
-use mathlib.Core.Path.{_≡_, sym, _∙_}
+use mathlib.Core.Path.{_≡_}
 use borrow.Author.Needs.{needs}
 use Rattle.write.proofs.write_log.Statement.{statement}
 use Rattle.write.proofs.write_log.Tie as tie
@@ -40,7 +41,7 @@ append-log-requires c κs = let start = c .before .before .before .before .befor
         bucket = on-chip (a .s .sizes) _ (cache-inside (body (a .s .sizes)) (a .b) (entriesOf (a .s .writes)) (orderly .writes) (body-some orderly));
         some = writes .some;
         room = writes .room;
-        pages = fit-pages (a .s .sizes) (spareOnly (a .spare .now)) (a .b) pages (placesOf (a .s)) (sym (c .before .before .before .before .fits2 .ensures) ∙ c .before .before .before .if1 .taken);
+        pages = fit-pages (a .s .sizes) (spareOnly (a .spare .now)) (a .b) pages (placesOf (a .s)) (rw (c .before .before .before .before .fits2 .ensures) at (c .before .before .before .if1 .taken));
       },
     )
 
@@ -62,7 +63,7 @@ returns c =
     let z = a .s .sizes in
     let d = device (a .flash .now) (a .spare .now) (a .disk .now) in
     let pages = pagesFor z (length (a .bytes .now)) in
-    let fitting : fits z d (a .b) pages (placesOf (a .s)) ≡ true = sym (same-fits z d (a .b) pages (placesOf (a .s))) ∙ sym (fits2 .ensures) ∙ if1 .taken in
+    let fitting : fits z d (a .b) pages (placesOf (a .s)) ≡ true = rw (fits2 .ensures, same-fits z d (a .b) pages (placesOf (a .s))) at (if1 .taken) in
     (rw fitting (c .before .before .before .before .before .before .append-log .ensures .0), c .before .before .before .before .before .before .append-log .ensures .1)
 
 make-way-requires : tie.Need-make-way-requires
@@ -76,7 +77,7 @@ start-log-requires c κs =
     let start = c .before .before .before .before .before .before .before .before .before .before .before .before .before .before .before .before .before .before .before .before .before .before in
     let a = start .args in
     let made = make-way .ensures in
-    let way = way-left (placesOf (a .s)) (a .spare .now) (start .pre .1 .yields) (a .b) _ (made .0) in
+    let way = way-left (placesOf (a .s)) (a .spare .now) (start .pre .1 .yields) (a .b) (running (a .flash .now) (a .spare .now) (a .disk .now) (a .meter)) (made .0) in
     (rw (way .sizes) (made .1), write-starts (start .pre .1) way)
 
 same-length-4 : tie.Need-same-length-4
@@ -98,11 +99,12 @@ returns-2 c =
     let z = a .s .sizes in
     let d = device (a .flash .now) (a .spare .now) (a .disk .now) in
     let pages = pagesFor z (length (a .bytes .now)) in
-    let full : fits z d (a .b) pages (placesOf (a .s)) ≡ false = sym (same-fits z d (a .b) pages (placesOf (a .s))) ∙ sym (fits2 .ensures) ∙ if1 .left in
+    let full : fits z d (a .b) pages (placesOf (a .s)) ≡ false = rw (fits2 .ensures, same-fits z d (a .b) pages (placesOf (a .s))) at (if1 .left) in
+    let r = running (a .flash .now) (a .spare .now) (a .disk .now) (a .meter) in
     let made = make-way .ensures in
     let started = c .before .before .before .before .before .before .start-log .ensures in (
-      written-by (placesOf (a .s)) (a .spare .now) (start .pre .1 .yields) (a .b) _ (made .0) (a .offset) (a .bytes .now) full (started .0),
-      rw (way-left (placesOf (a .s)) (a .spare .now) (start .pre .1 .yields) (a .b) _ (made .0) .sizes) at (started .1),
+      written-by (placesOf (a .s)) (a .spare .now) (start .pre .1 .yields) (a .b) r (made .0) (a .offset) (a .bytes .now) full (started .0),
+      rw (way-left (placesOf (a .s)) (a .spare .now) (start .pre .1 .yields) (a .b) r (made .0) .sizes) at (started .1),
     )
 
 pub write-log-spec : {M : Type 1} → statement M
