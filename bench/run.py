@@ -16,9 +16,10 @@ ROOT = os.path.dirname(os.path.dirname(os.path.abspath(__file__)))
 sys.path.insert(0, os.path.join(ROOT, "oracle"))
 
 import chart  # noqa: E402
-import compare  # noqa: E402
 import document  # noqa: E402
 import measure  # noqa: E402
+from inputs.calls import Kind, Sizes  # noqa: E402
+from inputs.driving import KINDS, Script  # noqa: E402
 
 TARGET = os.path.join(ROOT, "target")
 ORACLE = os.path.join(TARGET, "oracle")
@@ -29,9 +30,9 @@ PLOT = os.path.join(ROOT, "docs", "benchmark.svg")
 
 # From the smallest pages and buckets to chips that fill the flash or the disk buffer.
 DRIVING_SIZES = [
-    compare.Sizes(4, 1, 8, 16, 3, 4), compare.Sizes(16, 8, 32, 32, 8, 16),
-    compare.Sizes(64, 64, 6, 4, 2, 2), compare.Sizes(16, 4, 256, 256, 64, 64),
-    compare.Sizes(1024, 1, 31, 16, 10, 10),
+    Sizes(4, 1, 8, 16, 3, 4), Sizes(16, 8, 32, 32, 8, 16),
+    Sizes(64, 64, 6, 4, 2, 2), Sizes(16, 4, 256, 256, 64, 64),
+    Sizes(1024, 1, 31, 16, 10, 10),
 ]
 PROFILES = {"calm": "calm", "mixed": "wide", "recovery-heavy": "recovery"}
 
@@ -53,10 +54,10 @@ def newest_source():
 
 
 def driving_input(seed, profile, sizes, lines):
-    """An input of one of compare.py's kinds, at fixed sizes."""
-    kind = compare.KINDS[PROFILES[profile]]
-    fixed = compare.Kind(lambda rng: sizes, kind.weights, kind.short)
-    return compare.Script(random.Random(f"{seed} {profile} {sizes}"), fixed).text(lines)
+    """An input of one of the comparison's kinds, at fixed sizes."""
+    kind = KINDS[PROFILES[profile]]
+    fixed = Kind(lambda rng: sizes, kind.weights, kind.short)
+    return Script(random.Random(f"{seed} {profile} {sizes}"), fixed).text(lines)
 
 
 def driving_rows(program, options):

@@ -17,7 +17,7 @@ import tempfile
 import threading
 import time
 
-import compare
+from inputs.driving import KINDS, make_input
 
 MEGABYTE = 1 << 20
 PIECE = 65536  # what the program reads at most in one call
@@ -29,8 +29,8 @@ def long_input(seed):
     """Every kind of input in turn, and reads whose answers fill any buffer; no line feed at the end."""
     text, index = b"", 0
     while len(text) <= MEGABYTE:
-        for kind in compare.KINDS:
-            text += compare.make_input(seed, kind, index, 1000).rstrip(b"\n") + b"\n"
+        for kind in KINDS:
+            text += make_input(seed, kind, index, 1000).rstrip(b"\n") + b"\n"
         index += 1
     return text + b"01FFFF03F004000800040304\n" + b"02FFFF000000000FC0\n" * 100 + b"06FFFF"
 

@@ -1,6 +1,6 @@
 // The form of a state: its bytes, in which a program may keep it, and back.
-mod read;
-mod write;
+mod reading;
+mod writing;
 
 use state::State;
 ghost use mathlib.Core.Path.{_≡_};
@@ -22,14 +22,14 @@ pub fn state_bytes(s: State, out: &mut [u8]) -> usize
     ensures { λ r. ⌜ now (out .exit) ≡ (if hasForm (viewOf s) && leb (length (formOf (viewOf s))) (length (now (out .entry))) then splice (now (out .entry)) 0 (formOf (viewOf s)) else now (out .entry)) ⌝ }
     ensures { λ r. ⌜ r ≤ length (now (out .exit)) ⌝ }
 {
-    if !write::has_form(s) {
+    if !writing::has_form(s) {
         return 0;
     }
-    let size = write::form_size(s);
+    let size = writing::form_size(s);
     if out.len() < size {
         return 0;
     }
-    write::put_state(s, out);
+    writing::put_state(s, out);
     size
 }
 
@@ -40,11 +40,11 @@ pub fn is_form(bytes: &[u8]) -> bool
     if bytes.len() < 19 {
         return false;
     }
-    let mark = read::number_at(bytes, 9, 1);
-    let writes = read::behind(bytes, 19, 1, 3, 64);
-    let gc = read::behind(bytes, writes, 1, 4, 64);
-    let free = read::behind(bytes, gc, 2, 1, 256);
-    let end = read::behind(bytes, free, 2, 1, 256);
+    let mark = reading::number_at(bytes, 9, 1);
+    let writes = reading::behind(bytes, 19, 1, 3, 64);
+    let gc = reading::behind(bytes, writes, 1, 4, 64);
+    let free = reading::behind(bytes, gc, 2, 1, 256);
+    let end = reading::behind(bytes, free, 2, 1, 256);
     (mark <= 1) & (end == bytes.len())
 }
 
@@ -55,5 +55,5 @@ pub fn state_of(bytes: &[u8]) -> State
     if !is_form(bytes) {
         return State::unformatted();
     }
-    read::state_in(bytes)
+    reading::state_in(bytes)
 }
