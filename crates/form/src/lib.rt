@@ -16,6 +16,15 @@ ghost use Rattle.form.specs.Form.{formOf, hasForm, isForm, stateIn};
 // The bytes of the longest form.
 pub const LONGEST: usize = 985;
 
+// The head's bytes, and where the running mark, the write count and the next epoch stand in it, behind the sizes.
+const HEAD: usize = 19;
+
+const MARK: usize = 9;
+
+const COUNT: usize = 10;
+
+const EPOCH: usize = 11;
+
 // The state's form at the start of `out`, and its length; 0 where it has none, or none that has room there.
 pub fn state_bytes(s: State, out: &mut [u8]) -> usize
     ensures { λ r. ⌜ r ≡ (if hasForm (viewOf s) && leb (length (formOf (viewOf s))) (length (now (out .entry))) then length (formOf (viewOf s)) else 0) ⌝ }
@@ -37,11 +46,11 @@ pub fn state_bytes(s: State, out: &mut [u8]) -> usize
 pub fn is_form(bytes: &[u8]) -> bool
     ensures { λ r. ⌜ r ≡ isForm (now (bytes .entry)) ⌝ }
 {
-    if bytes.len() < 19 {
+    if bytes.len() < HEAD {
         return false;
     }
-    let mark = reading::number_at(bytes, 9, 1);
-    let writes = reading::behind(bytes, 19, 1, 3, 64);
+    let mark = reading::number_at(bytes, MARK, 1);
+    let writes = reading::behind(bytes, HEAD, 1, 3, 64);
     let gc = reading::behind(bytes, writes, 1, 4, 64);
     let free = reading::behind(bytes, gc, 2, 1, 256);
     let end = reading::behind(bytes, free, 2, 1, 256);

@@ -149,11 +149,11 @@ pub fn state_in(bytes: &[u8]) -> State
     requires { ⌜ isForm (now bytes) ≡ true ⌝ }
     ensures { λ r. ⌜ r ≡ stateOf (stateIn (now (bytes .entry))) ⌝ }
 {
-    let writes_at = table_end(bytes, 19, 1, 3);
+    let writes_at = table_end(bytes, crate::HEAD, 1, 3);
     let gc_at = table_end(bytes, writes_at, 1, 4);
     let free_at = table_end(bytes, gc_at, 2, 1);
     let sizes = sizes_in(bytes);
-    let reads = queue_at(bytes, 19, false);
+    let reads = queue_at(bytes, crate::HEAD, false);
     let writes = queue_at(bytes, writes_at, true);
     let gc = fifo_at(bytes, gc_at);
     let free = fifo_at(bytes, free_at);
@@ -163,8 +163,8 @@ pub fn state_in(bytes: &[u8]) -> State
         gc,
         free,
         sizes,
-        next: number_at(bytes, 11, 8),
-        accepted: bytes[10],
-        running: bytes[9] == 1,
+        next: number_at(bytes, crate::EPOCH, 8),
+        accepted: bytes[crate::COUNT],
+        running: bytes[crate::MARK] == 1,
     }
 }

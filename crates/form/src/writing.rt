@@ -54,9 +54,9 @@ fn put_head(out: &mut [u8], s: State)
     ensures { λ _. ⌜ now (out .exit) ≡ splice (now (out .entry)) 0 (rowBytes headWidths (headNumbers (placesOf s))) ⌝ }
 {
     put_sizes(out, s.sizes);
-    put_number(out, 9, 1, mark(s.running));
-    put_number(out, 10, 1, s.accepted as u64);
-    put_number(out, 11, 8, s.next);
+    put_number(out, crate::MARK, 1, mark(s.running));
+    put_number(out, crate::COUNT, 1, s.accepted as u64);
+    put_number(out, crate::EPOCH, 8, s.next);
 }
 
 // The bytes of an entry. A read queue's has no priority.
@@ -144,7 +144,7 @@ pub fn put_state(s: State, out: &mut [u8])
     ensures { λ _. ⌜ now (out .exit) ≡ splice (now (out .entry)) 0 (formOf (placesOf s)) ⌝ }
 {
     put_head(out, s);
-    let writes = put_queue(out, 19, s.reads, false);
+    let writes = put_queue(out, crate::HEAD, s.reads, false);
     let gc = put_queue(out, writes, s.writes, true);
     let free = put_fifo(out, gc, s.gc);
     put_fifo(out, free, s.free);
