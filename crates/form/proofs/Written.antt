@@ -5,8 +5,10 @@ use mathlib.Core.Bool.{Bool, true, false}
 use mathlib.Core.List.{List, [], _∷_, _++_, map}
 use mathlib.Core.Logic.{inl}
 use native.Mathlib.Omega.{arith}
+use borrow.Author.Tests.{leb-true}
 use lib.ListN.{length, take, drop, getD, set, length-append, length-map}
 use Rattle.lists.specs.Lists.{splice, concatMap}
+use Rattle.lists.proofs.Tests.{every-at}
 use Rattle.lists.proofs.Arrays.{rest-more, rest-none}
 use Rattle.lists.proofs.Splices.{splice-none, splice-one, splice-next}
 use Rattle.lists.proofs.Parts.{length-splice, splice-comm}
@@ -14,7 +16,8 @@ use Rattle.model.specs.declared.Entry.{Entry}
 use Rattle.model.specs.State.{State}
 use Rattle.form.specs.Numbers.{numberBytes}
 use Rattle.form.specs.Rows.{width, rowBytes, tableBytes}
-use Rattle.form.specs.Form.{headWidths, headNumbers, sizeNumbers, entryWidths, entryNumbers, bucketWidths, bucketNumbers, entriesForm, bucketsForm, formOf}
+use Rattle.form.specs.Form.{headWidths, headNumbers, sizeNumbers, entryWidths, entryNumbers, bucketWidths, bucketNumbers, entriesForm, bucketsForm, formOf, hasForm}
+use Rattle.form.specs.Claims.{NeverLonger}
 use Rattle.form.proofs.Numbers.{number-length}
 use Rattle.form.proofs.Tables.{row-wide}
 
@@ -168,3 +171,12 @@ form-long s =
 pub form-wide : (s : State) → length (formOf s) ≡ 25 + length (s .reads) * 3 + length (s .writes) * 4 + length (s .gc) + length (s .free)
 unfolding width entryWidths
 form-wide s = omega (arith, form-long s, entries-wide false (s .reads), entries-wide true (s .writes), buckets-wide (s .gc), buckets-wide (s .free))
+
+pub never-longer : NeverLonger
+unfolding hasForm
+never-longer s has =
+    let reads = leb-true (length (s .reads)) 64 (every-at _ has 1) in
+    let writes = leb-true (length (s .writes)) 64 (every-at _ has 2) in
+    let gc = leb-true (length (s .gc)) 256 (every-at _ has 3) in
+    let free = leb-true (length (s .free)) 256 (every-at _ has 4) in
+    omega (arith, form-wide s)

@@ -17,7 +17,7 @@ abbrev pub sizeWidths : List ℕ
 sizeWidths = 2 ∷ 1 ∷ 2 ∷ 2 ∷ 1 ∷ 1 ∷ []
 
 abbrev pub headWidths : List ℕ
-headWidths = 2 ∷ 1 ∷ 2 ∷ 2 ∷ 1 ∷ 1 ∷ 1 ∷ 1 ∷ 8 ∷ []
+headWidths = sizeWidths ++ (1 ∷ 1 ∷ 8 ∷ [])
 
 unfoldable pub sizeNumbers : Sizes → List ℕ
 sizeNumbers z = z .s ∷ z .p ∷ z .c ∷ z .b ∷ z .r ∷ z .w ∷ []
@@ -107,7 +107,7 @@ fromGc l = behind 1 (entryWidths true) (fromWrites l)
 unfoldable pub fromFree : List ℕ → List ℕ
 fromFree l = behind 2 bucketWidths (fromGc l)
 
--- "A count above its bound, a running mark other than 00 and 01" is no form; nor is one that is too short or too long.
+-- l is the form of a state: the running mark is 0 or 1, each queue is there and no longer than it may be, and nothing stands behind the last
 unfoldable pub isForm : List ℕ → Bool
 isForm l = every
     (leb (width headWidths) (length l)

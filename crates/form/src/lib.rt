@@ -13,7 +13,7 @@ ghost use Rattle.model.specs.State.{unformatted};
 ghost use Rattle.state.specs.View.{viewOf, stateOf};
 ghost use Rattle.form.specs.Form.{formOf, hasForm, isForm, stateIn};
 
-// The bytes of the longest form.
+// The bytes of the longest form: `NeverLonger` in specs/Claims.
 pub const LONGEST: usize = 985;
 
 // The head's bytes, and where the running mark, the write count and the next epoch stand in it, behind the sizes.

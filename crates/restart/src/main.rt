@@ -8,6 +8,17 @@ mod run;
 
 use model::Sizes;
 
+// A queue whose length says more than its array has places for, which no form of a state can: number 5.
+fn drain_beyond_places(z: Sizes, flash: &mut [u8], spare: &mut [u8], disk: &mut [u8]) {
+    let run = run::mixed(z, flash, spare, disk);
+    let mut state = run.state;
+    state.reads.len = 1000;
+    let o = drain::drain(state, 99, flash, spare, disk);
+    let reply = o.answer;
+    let line = [run::letter(reply), b'0' + run::number(reply) % 10, b'\n'];
+    io::write_all(1, &line);
+}
+
 // The smallest chip.
 fn one_page() {
     let z = Sizes {
@@ -21,6 +32,7 @@ fn one_page() {
     let mut flash = [0u8; 12];
     let mut spare = [0u8; 48];
     let mut disk = [0u8; 4];
+    drain_beyond_places(z, &mut flash, &mut spare, &mut disk);
     cuts::cut_all(z, &mut flash, &mut spare, &mut disk);
 }
 
@@ -69,32 +81,9 @@ fn four_pages() {
     cuts::cut_all(z, &mut flash, &mut spare, &mut disk);
 }
 
-// A queue whose length says more than its array has places for, which no form of a state can: number 5.
-fn beyond_places() {
-    let z = Sizes {
-        s: 4,
-        p: 1,
-        c: 3,
-        b: 1,
-        r: 1,
-        w: 1,
-    };
-    let mut flash = [0u8; 12];
-    let mut spare = [0u8; 48];
-    let mut disk = [0u8; 4];
-    let run = run::mixed(z, &mut flash, &mut spare, &mut disk);
-    let mut state = run.state;
-    state.reads.len = 1000;
-    let o = drain::drain(state, 99, &mut flash, &mut spare, &mut disk);
-    let reply = o.answer;
-    let line = [run::letter(reply), b'0' + run::number(reply) % 10, b'\n'];
-    io::write_all(1, &line);
-}
-
 fn main() {
     one_page();
     two_pages();
     odd_pages();
     four_pages();
-    beyond_places();
 }
