@@ -86,7 +86,8 @@ def kinds_of(request, stores):
 
     Once the first bucket had to be erased none is free beforehand, so every
     allocation erases one. A write that evicts allocates for its log alone when
-    the merged bytes go to the disk, and once more when they become a copy.
+    the merged bytes go to the disk or a copy has them already, and once more
+    when they become a copy.
     """
     if request.is_read:
         return {0: (0, 0, 0), P + 1: (1, P, 0), 2 * P + 1: (1, P, P)}[stores]

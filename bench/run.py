@@ -54,9 +54,9 @@ def newest_source():
 
 
 def driving_input(seed, profile, sizes, lines):
-    """An input of one of the comparison's kinds, at fixed sizes."""
+    """An input of one of the comparison's kinds, at fixed sizes, with reads and writes in no order."""
     kind = KINDS[PROFILES[profile]]
-    fixed = Kind(lambda rng: sizes, kind.weights, kind.short)
+    fixed = Kind(lambda rng: sizes, kind.weights, kind.short, refresh=0)
     return Script(random.Random(f"{seed} {profile} {sizes}"), fixed).text(lines)
 
 

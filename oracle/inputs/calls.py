@@ -36,13 +36,14 @@ def fitting(sizes, rng):
 class Kind:
     """What a kind of input is made of."""
 
-    def __init__(self, sizes, weights, short, bad=0.0, reformat=0.01, brief=False):
+    def __init__(self, sizes, weights, short, bad=0.0, reformat=0.01, brief=False, refresh=0.06):
         self.sizes = sizes        # rng -> Sizes
         self.weights = weights    # read, write, erase step, drain, recover
         self.short = short        # share of lines with a short allowance
         self.bad = bad            # share of bad lines
         self.reformat = reformat  # share of formats
         self.brief = brief        # whether logs are of a page or two
+        self.refresh = refresh    # share of lines at which some hot buckets begin to be read in turn
 
 
 def small_sizes(rng):
@@ -97,6 +98,7 @@ class Calls:
         self.most_data = most_digits // 2 - 7
         self.sizes = None     # of the last format that should be Done
         self.hot = []         # back-end buckets asked for often
+        self.screen = []      # hot ones that are read next, as on a screen
         self.stopped = False  # whether the last short allowance may have cut
 
     def frame(self, op, allowance, fields):
@@ -112,6 +114,7 @@ class Calls:
             return self.format_line(rng.randint(0, sizes.C - 1), sizes)
         self.sizes = sizes
         self.stopped = False
+        self.screen = []
         self.hot = [rng.randrange(sizes.B) for _ in range(rng.choice([2, 3, sizes.R + sizes.W]))]
         return self.format_line(rng.choice([PLENTY, PLENTY, sizes.C]), sizes)
 
@@ -121,8 +124,12 @@ class Calls:
 
     def operation(self):
         rng = self.rng
+        if self.kind.refresh and rng.random() < self.kind.refresh:
+            self.screen = rng.choices(self.hot, k=rng.randint(2, 8)) if self.hot else []
         if self.stopped and rng.random() < 0.6:
             op = 6
+        elif self.screen:
+            op = 2
         else:
             op = rng.choices([2, 3, 4, 5, 6], self.kind.weights)[0]
         allowance = self.allowance(op)
@@ -148,11 +155,18 @@ class Calls:
         data = self.rng.randbytes(min(length, self.most_data))
         return f"{bucket:04X}{offset:04X}{data.hex().upper()}"
 
+    def bucket(self, z):
+        """The next of the screen; else a hot one or any."""
+        rng = self.rng
+        if self.screen:
+            return self.screen.pop()
+        hot = self.hot and not self.kind.brief and rng.random() < 0.7
+        return rng.choice(self.hot) if hot else rng.randrange(z.B)
+
     def part(self):
         rng = self.rng
         z = self.sizes or Sizes(4, 2, 4, 2, 1, 1)
-        hot = self.hot and not self.kind.brief and rng.random() < 0.7
-        bucket = rng.choice(self.hot) if hot else rng.randrange(z.B)
+        bucket = self.bucket(z)
         whole = z.P * z.S
         offset = rng.choice([0, rng.randrange(whole), rng.randrange(z.P) * z.S])
         room = whole - offset

@@ -5,7 +5,7 @@ from inputs.forge import forge_pages, forge_state, tied
 from inputs.images import any_logs, fill, made_up, odd_blanks, queue_up, some_epochs
 from inputs.lists import honest_situation, recovery
 from inputs.probes import ON_CHIP, RUNNING, good_call, page_look, show_all, show_something, some_units, write
-from inputs.rich import rich_sizes
+from inputs.rich import any_copy, rich_sizes
 from inputs.situation import format_line, formatted
 
 
@@ -18,25 +18,27 @@ def changed(rng, before, situation, change, ops):
         lines += situation.lines_to(forged) + tries(rng, forged, ops) + forged.lines_to(situation)
     forged = situation.copy()
     change(rng, forged)
-    lines += situation.lines_to(forged) + any_calls(rng, situation.sizes)
-    return lines + ["10" + situation.state.text()] + any_calls(rng, situation.sizes)
+    lines += situation.lines_to(forged) + any_calls(rng, situation.sizes, forged.written())
+    return lines + ["10" + situation.state.text()] + any_calls(rng, situation.sizes, situation.written())
 
 
 def tries(rng, forged, ops):
     """Calls with no store allowed; a cut one stops the state, which is then put there again."""
     lines = []
     for op in rng.sample(ops, rng.randint(1, len(ops))):
-        lines.append(good_call(rng, forged.sizes, op, 0))
+        lines.append(good_call(rng, forged.sizes, op, 0, forged.written()))
         lines += rng.choice([[], ["11"], ["10" + forged.state.text()]])
     return lines
 
 
-def any_calls(rng, z):
-    """Calls with plenty or few stores allowed, what they leave shown, and a recovery."""
+def any_calls(rng, z, wanted=()):
+    """Calls, many of back-end buckets that are wanted, with plenty or few stores allowed; what they leave shown, and
+    a recovery."""
     lines = []
     for _ in range(rng.randint(2, 12)):
         op = rng.choice([*RUNNING, 0x02, 0x03, 0x03, 0x06, 0x16])
-        lines.append(good_call(rng, z, op, rng.choice([PLENTY, PLENTY, PLENTY, rng.randint(0, 2 * z.P + 2)])))
+        allowance = rng.choice([PLENTY, PLENTY, PLENTY, rng.randint(0, 2 * z.P + 2)])
+        lines.append(good_call(rng, z, op, allowance, wanted))
         if rng.random() < 0.3:
             lines.append(show_something(rng, z))
     return lines + (recovery(rng, z) if rng.random() < 0.5 else ["11"])
@@ -85,20 +87,24 @@ def made_up_chip(rng):
     if what == "recovered":
         return before + recovery(rng, z) + all_shown + any_calls(rng, z)
     if what == "called":
-        return before + any_calls(rng, z) + all_shown
+        return before + any_calls(rng, z, situation.written()) + all_shown
     return changed(rng, before, situation, forge_pages, ON_CHIP)
 
 
 def victims(rng):
-    """A full write queue in any order, all priorities alike, and writes for which one after the other goes."""
+    """A full write queue in any order, all priorities alike, some of it marked, and writes for which one after the
+    other goes."""
     z = Sizes(4, rng.randint(1, 3), rng.randint(8, 10), 9, 2, rng.randint(2, 4))
     situation, back_ends = formatted(z), rng.sample(range(z.B), z.B)
-    for bucket, epoch in enumerate(some_epochs(rng, z.W)):
-        fill(rng, situation, bucket, any_logs(rng, z, epoch, back_ends[bucket]))
+    for bucket, epoch in enumerate(some_epochs(rng, z.W + z.R)):
+        pages = (any_logs(rng, z, epoch, back_ends[bucket]) if bucket < z.W
+                 else any_copy(rng, z, epoch, back_ends[bucket - z.W]))
+        fill(rng, situation, bucket, pages)
     odd_blanks(rng, situation)
     queue_up(rng, situation)
     tied(rng, situation)
-    situation.state.values["epoch"] = max(situation.epochs()) + 1
+    # A halving on the way keeps the marks.
+    situation.state.values.update(count=rng.choice([0, 13, 14, 15]), epoch=max(situation.epochs()) + 1)
     lines = [format_line(z), *formatted(z).lines_to(situation)]
     for back_end in back_ends[z.W:]:
         lines += [write(back_end, 0, rng.randbytes(rng.randint(1, z.P * z.S))), "11"]

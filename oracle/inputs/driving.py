@@ -95,7 +95,7 @@ class Script(Calls):
 
     def odd_format(self, z):
         if fits(z):
-            self.sizes, self.hot, self.stopped = z, [], False
+            self.sizes, self.hot, self.screen, self.stopped = z, [], [], False
         return self.format_line(PLENTY, z)
 
     def garbage(self):

@@ -33,7 +33,7 @@ def a_limit(rng, situation):
     values[name] = rng.choice([max(values[name] - 1, 0), values[name] + 1])
 
 
-def the_mark(_, situation):
+def running_mark(_, situation):
     situation.state.values["running"] ^= 1
 
 
@@ -59,8 +59,16 @@ def an_entry(rng, situation):
     values = {
         "back_end": [rng.randrange(z.B), z.B, 65535, min(entry[name] + 1, 65535)],
         "bucket": [rng.randrange(z.C), min(z.C, 255), 255, min(entry[name] + 1, 255)],
+        "mark": [0, 1, 2, 255],
     }.get(name, [0, z.P - 1, z.P, z.P + 1, 255])
     entry[name] = rng.choice(others + values)
+
+
+def a_record_mark(rng, situation):
+    """Set or cleared, with a read bucket or without; now and then a byte that is no mark."""
+    if situation.queue("writes"):
+        entry = rng.choice(situation.queue("writes"))
+        entry["mark"] = rng.choice([entry["mark"] ^ 1] * 6 + [2, 255])
 
 
 def swapped(rng, situation):
@@ -99,7 +107,7 @@ def moved(rng, situation):
     to = rng.choice(list(QUEUES))
     on_chip = entry["bucket"] < situation.sizes.C and situation.spare(entry["bucket"], 0)
     back_end = on_chip["back_end"] if on_chip else rng.randrange(situation.sizes.B)
-    new = entry_for(to, entry["bucket"], back_end, rng.randint(0, situation.sizes.P))
+    new = entry_for(to, entry["bucket"], back_end, rng.randint(0, situation.sizes.P), rng.choice([0, 0, 1]))
     situation.queue(to).insert(rng.randint(0, len(situation.queue(to))), new)
 
 
@@ -118,8 +126,8 @@ def some_queue(rng, situation, least):
     return rng.choice(queues) if queues else None
 
 
-STATE_CHANGES = [a_size, a_limit, the_mark, the_count, the_epoch, the_epoch, an_entry, an_entry, an_entry,
-                 swapped, swapped, tied, doubled, removed, moved, moved, traded]
+STATE_CHANGES = [a_size, a_limit, running_mark, the_count, the_epoch, the_epoch, an_entry, an_entry, an_entry,
+                 a_record_mark, a_record_mark, swapped, swapped, tied, doubled, removed, moved, moved, traded]
 
 
 # Changes of pages

@@ -96,6 +96,14 @@ def queue_up(rng, situation):
             queue = "gc"
         queues[queue].append(entry_for(queue, bucket, back_end, rng.choice([0, 0, 1, rng.randint(0, z.P)])))
     situation.state.queues = queues
+    mark_some(rng, situation)
+
+
+def mark_some(rng, situation):
+    """Marks some of the records that have a read bucket, whatever bytes there are in it."""
+    copies = [entry["back_end"] for entry in situation.queue("reads")]
+    for entry in situation.queue("writes"):
+        entry["mark"] = int(entry["back_end"] in copies and rng.random() < 0.5)
 
 
 def wanted_queue(situation, bucket):
@@ -109,6 +117,6 @@ def wanted_queue(situation, bucket):
     return ("reads" if len(spares) == situation.sizes.P else "gc"), back_end
 
 
-def entry_for(queue, bucket, back_end, priority):
-    values = {"bucket": bucket, "back_end": back_end, "priority": priority}
+def entry_for(queue, bucket, back_end, priority, mark=0):
+    values = {"bucket": bucket, "back_end": back_end, "priority": priority, "mark": mark}
     return {name: values[name] for name, _ in QUEUES[queue][2]}

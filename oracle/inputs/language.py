@@ -63,7 +63,7 @@ def counts(rng, rich):
     queue = rng.choice(list(QUEUES))
     _, most, table = QUEUES[queue]
     length = rng.choice([0, most - 1, most, most, most + 1, most + 1, most + 40])
-    state.queues[queue] = [entry_for(queue, n % 256, rng.randrange(65536), rng.randrange(256))
+    state.queues[queue] = [entry_for(queue, n % 256, rng.randrange(65536), rng.randrange(256), rng.choice([0, 1]))
                            for n in range(length)]
     line = "10" + state.text()
     if rng.random() < 0.2:
@@ -73,8 +73,12 @@ def counts(rng, rich):
 
 
 def marks(rng, rich):
+    """The running mark, or that of a record of few or of as many as there may be."""
     state = rich.situation.state.copy()
-    state.values["running"] = rng.choice([0, 1, 2, 3, 16, 254, 255])
+    writes = state.queues["writes"] * rng.choice([1, 1, 32])
+    state.queues["writes"] = writes = [dict(entry) for entry in writes]
+    fields, name = rng.choice([(state.values, "running"), (writes[-1], "mark"), (rng.choice(writes), "mark")])
+    fields[name] = rng.choice([0, 1, 2, 3, 16, 254, 255])
     return ["10" + state.text(), "11", good_call(rng, rich.situation.sizes, 0x04, 0)]
 
 

@@ -43,15 +43,16 @@ def lend_less(data, spare, disk):
     return "17" + number(data, 2) + number(spare, 2) + number(disk, 2)
 
 
-def good_call(rng, z, op, allowance):
-    """A call with fields that are never refused."""
+def good_call(rng, z, op, allowance, wanted=()):
+    """A call with fields that are never refused, often of a back-end bucket that is wanted."""
     if op == 0x01:
         return format_line(z, allowance)
     if op == 0x16:
         return page_look(rng.randrange(z.C), rng.randrange(z.P))
     if op not in (0x02, 0x03):
         return call(op, allowance)
-    back_end, offset = rng.randrange(z.B), rng.randrange(z.P * z.S)
+    back_end = rng.choice(wanted) if wanted and rng.random() < 0.5 else rng.randrange(z.B)
+    offset = rng.randrange(z.P * z.S)
     length = rng.randint(1, min(z.P * z.S - offset, rng.choice([1, z.S, z.P * z.S])))
     if op == 0x02:
         return read(back_end, offset, length, allowance)

@@ -3,7 +3,7 @@
 from functools import partial
 
 from inputs.calls import FULL, SPARE_BYTES, Sizes
-from inputs.images import EPOCH_END
+from inputs.images import EPOCH_END, mark_some
 from inputs.probes import LENDING, good_call, lend_less, page_look, read, write
 from inputs.situation import format_line
 
@@ -37,11 +37,12 @@ def about_buffers(rng, rich):
 
 
 def by_epochs(rng, rich):
-    """The last next epochs: a write is turned down and a read stores nothing from one on."""
+    """The last next epochs: a write is turned down, and a read stores, moves and marks nothing from one on."""
     lines, forged = [], rich.situation.copy()
     for op in rng.sample([0x02, 0x02, 0x03], 3):
         forged.state.values["epoch"] = EPOCH_END - rng.choice([0, 1, 1, 2, 2, 3])
-        lines += [*rich.situation.lines_to(forged), good_call(rng, forged.sizes, op, 0), "11"]
+        mark_some(rng, forged)
+        lines += [*rich.situation.lines_to(forged), good_call(rng, forged.sizes, op, 0, forged.written()), "11"]
     return lines + forged.lines_to(rich.situation)
 
 

@@ -49,6 +49,10 @@ class Situation:
         return [self.spare(bucket, 0)["epoch"] for bucket in range(self.sizes.C)
                 if self.pages[bucket, 0][0] != BLANK]
 
+    def written(self):
+        """The back-end buckets in the write queue that are there."""
+        return [entry["back_end"] for entry in self.queue("writes") if entry["back_end"] < self.sizes.B]
+
     def lines_to(self, other):
         """The lines that turn this situation, or what refused calls left of it, into another."""
         pages = [f"12{bucket:04X}{page:02X}{spare}{data}"

@@ -128,6 +128,18 @@ def page_in_free(rng, rich, s):
     s.put(rng.choice(s.queue("free"))["bucket"], 0, spare)
 
 
+# Marks
+
+def marked(role, _, rich, s):
+    entry_of(rich, s, role)["mark"] = 1
+
+
+def copy_not_queued(mark, rng, rich, s):
+    """A copy is on the chip and not in the read queue."""
+    entry_of(rich, s, "over copy")["mark"] = mark
+    moved("copy", "gc", rng, rich, s)
+
+
 # Numbers
 
 def priority(above, rng, _, s):
@@ -176,6 +188,8 @@ CLAUSES = [
     *(partial(blank_queued, queue) for queue in ("reads", "writes")),
     incomplete, last_page_blank, page_in_free,
     *(partial(moved, role, "free") for role in ("third copy", "short logs", "part of copy")),
+    *(partial(marked, role) for role in ("over copy", "over disk")),
+    *(partial(copy_not_queued, mark) for mark in (0, 1)),
     *(partial(priority, value) for value in (0, 1, 255)),
     *(partial(count, value) for value in (15, 16, 255)),
     *(partial(epoch, value) for value in (0, EPOCH_END, EPOCH_END + 1, 2 ** 63, 2 ** 64 - 1)),

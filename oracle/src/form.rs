@@ -50,7 +50,8 @@ fn read_entry<W: Way>(way: &mut W, entry: &mut ReadEntry) -> Result<(), TurnedDo
 fn write_entry<W: Way>(way: &mut W, entry: &mut WriteEntry) -> Result<(), TurnedDown> {
     way.field(2, &mut entry.back_end)?;
     way.field(1, &mut entry.bucket)?;
-    way.field(1, &mut entry.priority)
+    way.field(1, &mut entry.priority)?;
+    way.mark(&mut entry.marked)
 }
 
 fn bucket<W: Way>(way: &mut W, bucket: &mut u8) -> Result<(), TurnedDown> {

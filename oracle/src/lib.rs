@@ -1,5 +1,5 @@
-//! A plain WLFC cache engine for the depot recorder, written from document 01 and
-//! not from the proved engine, as its outside check and its speed baseline.
+//! A plain WLFC cache engine for the depot recorder, written from documents 01 and 02
+//! and not from the proved engine, as its outside check and its speed baseline.
 
 pub mod device;
 mod distinct;

@@ -32,36 +32,33 @@ impl Call<'_> {
 
     pub fn read(&mut self, back_end: u16, offset: usize, buffer: &mut [u8]) -> Result<Answer, Cut> {
         if self.state.has_epochs() {
-            let copy = self.recent_copy(back_end)?;
-            // Only now is the buffer touched: a cut leaves it as it was.
-            let from = Holding::copy_alone(back_end, copy);
-            self.device.read(&from, offset, buffer);
-        } else {
-            let from = self.state.holding(back_end);
-            self.device.read(&from, offset, buffer);
+            self.use_copy(back_end)?;
         }
+        // Only now is the buffer touched: a cut leaves it as it was. Logs are laid over
+        // a copy that has them too: a state may say so of one that has not.
+        let from = self.state.holding(back_end);
+        self.device.read(&from, offset, buffer);
         Ok(Answer::Done)
     }
 
-    /// The bucket with all bytes of a back-end bucket, made most recent: the copy
-    /// that is there if no logs lie over it, else a new one.
-    fn recent_copy(&mut self, back_end: u16) -> Result<u8, Cut> {
+    /// Makes a copy with all bytes of a back-end bucket most recent: the one that is
+    /// there if it has the logs or there are none, else a new one.
+    fn use_copy(&mut self, back_end: u16) -> Result<(), Cut> {
         let Holding { copy, writes, .. } = self.state.holding(back_end);
-        match (copy, writes.is_empty()) {
-            (Some(copy), true) => {
+        let write_miss = writes.is_empty();
+        match copy {
+            Some(copy) if write_miss || self.state.is_marked(back_end) => {
                 self.state.unmap_read(back_end);
                 self.state.map_read(back_end, copy);
-                Ok(copy)
+                return Ok(());
             }
-            (Some(_), false) => self.store_copy(Kind::Dirty, back_end),
-            (None, write_miss) => {
-                if self.state.reads.len() == self.state.sizes.read_limit {
-                    self.evict_read()?;
-                }
-                let kind = if write_miss { Kind::Read } else { Kind::Dirty };
-                self.store_copy(kind, back_end)
-            }
+            None if self.state.reads.len() == self.state.sizes.read_limit => self.evict_read()?,
+            _ => {}
         }
+        let kind = if write_miss { Kind::Read } else { Kind::Dirty };
+        self.store_copy(kind, back_end)?;
+        self.state.set_mark(back_end, true);
+        Ok(())
     }
 
     pub fn erase_step(&mut self) -> Result<Answer, Cut> {

@@ -156,6 +156,8 @@ impl<'s> Plan<'s> {
             back_end: look.back_end,
             bucket,
             priority: self.sizes.bucket_pages as u8 - look.used,
+            // The chip does not say whether the copy was made before the last log.
+            marked: false,
         }
     }
 }

@@ -24,6 +24,8 @@ pub struct WriteEntry {
     pub back_end: u16,
     pub bucket: u8,
     pub priority: u8,
+    /// Whether the logs are all in the read bucket.
+    pub marked: bool,
 }
 
 #[derive(Clone, Debug, Default, PartialEq, Eq)]
@@ -85,15 +87,32 @@ impl State {
         self.reads.push(ReadEntry { back_end, bucket });
     }
 
-    /// Sets the priority of a back-end bucket; one not yet queued goes last.
+    /// Takes a log of a back-end bucket into account: its priority is set, and no copy
+    /// has the log yet. A back-end bucket that is not queued goes last.
     pub fn set_write(&mut self, back_end: u16, bucket: u8, priority: u8) {
+        let logged = WriteEntry {
+            back_end,
+            bucket,
+            priority,
+            marked: false,
+        };
         match self.writes.iter_mut().find(|e| e.back_end == back_end) {
-            Some(entry) => entry.priority = priority,
-            None => self.writes.push(WriteEntry {
-                back_end,
-                bucket,
-                priority,
-            }),
+            Some(entry) => *entry = logged,
+            None => self.writes.push(logged),
+        }
+    }
+
+    /// Whether the read bucket of a back-end bucket has all logs of its Write bucket.
+    pub fn is_marked(&self, back_end: u16) -> bool {
+        let mut writes = self.writes.iter();
+        writes.any(|e| e.back_end == back_end && e.marked)
+    }
+
+    /// Marks the record of a back-end bucket, or clears its mark; without one nothing
+    /// changes.
+    pub fn set_mark(&mut self, back_end: u16, marked: bool) {
+        if let Some(entry) = self.writes.iter_mut().find(|e| e.back_end == back_end) {
+            entry.marked = marked;
         }
     }
 

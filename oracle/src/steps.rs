@@ -51,29 +51,37 @@ impl Call<'_> {
 
     /// Programs a new copy and maps it as most recent. An old copy joins GC only
     /// then, so that the bytes are always somewhere.
-    pub fn store_copy(&mut self, kind: Kind, back_end: u16) -> Result<u8, Cut> {
+    pub fn store_copy(&mut self, kind: Kind, back_end: u16) -> Result<(), Cut> {
         let (bucket, epoch) = self.allocate()?;
         let from = self.state.holding(back_end);
         self.device.program_copy(bucket, kind, epoch, &from)?;
         let old = self.state.unmap_read(back_end);
         self.state.gc.extend(old);
         self.state.map_read(back_end, bucket);
-        Ok(bucket)
+        Ok(())
     }
 
+    /// Puts a Write bucket out; what a copy has of it already is not stored again.
     fn evict_write(&mut self, back_end: u16) -> Result<(), Cut> {
-        let from = self.state.holding(back_end);
-        if from.copy.is_some() {
-            self.store_copy(Kind::Dirty, back_end)?;
-        } else {
-            self.device.write_units(&from)?;
+        if !self.state.is_marked(back_end) {
+            self.store_merged(back_end)?;
         }
         let bucket = self.state.unmap_write(back_end);
         self.state.gc.extend(bucket);
         Ok(())
     }
 
-    /// Puts the least recent copy out; a Dirty one is all there is of its bytes.
+    /// Stores the merged bytes as a copy if there is one, else on the disk.
+    fn store_merged(&mut self, back_end: u16) -> Result<(), Cut> {
+        let from = self.state.holding(back_end);
+        match from.copy {
+            Some(_) => self.store_copy(Kind::Dirty, back_end),
+            None => self.device.write_units(&from),
+        }
+    }
+
+    /// Puts the least recent copy out; a Dirty one is all there is of its bytes. Logs
+    /// of its back-end bucket are in no copy from now on.
     pub fn evict_read(&mut self) -> Result<(), Cut> {
         let Some(entry) = self.state.reads.pop_first() else {
             return Ok(());
@@ -83,6 +91,7 @@ impl Call<'_> {
             self.device.write_units(&from)?;
         }
         self.state.gc.push(entry.bucket);
+        self.state.set_mark(entry.back_end, false);
         Ok(())
     }
 

@@ -10,7 +10,7 @@ use Rattle.lists.proofs.Tests.{true-or-false}
 use Rattle.model.specs.declared.Sizes.{Sizes}
 use Rattle.model.specs.declared.Entry.{Entry}
 use Rattle.model.specs.Sizes.{Device, bucketSize}
-use Rattle.model.specs.State.{State, moved, holds, cachesOf, without}
+use Rattle.model.specs.State.{State, moved, holds, cachesOf, without, isMarked}
 use Rattle.model.specs.Steps.{_then_, move, nothing, makeRoom, taken, takeCopy, dropWrite, copy, merged, evict, fillCopy, writeOut}
 use Rattle.queue.proofs.Without.{without-length}
 use Rattle.meter.specs.Run.{Run, runAll}
@@ -19,7 +19,7 @@ use Rattle.steps.specs.Ready.{Orderly, Ready}
 use Rattle.steps.proofs.Kept.{roomed, copied-orderly, dropped-orderly, dropped-ready}
 use Rattle.steps.proofs.Turns.{after-then}
 use Rattle.copying.specs.Fresh.{Copies}
-use Rattle.evict.specs.PutAway.{Evicts, putAway}
+use Rattle.evict.specs.PutAway.{Evicts, putAway, putOut}
 
 -- a queue that holds b is longer than what is left of it
 fewer : (b : ℕ) (l : List Entry) → holds b l ≡ true → length (without b l) < length l
@@ -49,6 +49,9 @@ pub record Evicted (s t : State) : Type 0 where
   pub next : t .next ≤ s .next + 1
 
 module _ (s : State) (b : ℕ) (e : Evicts s b) where
+  stays : Away s s
+  stays = record { orderly = e .ready .orderly; sizes = refl; writes = refl; next = omega arith }
+
   copied-away : (z : Sizes) (d : Device) → holds b (s .reads) ≡ true → Away s (takeCopy b (makeRoom z s d .state))
   unfolding takeCopy taken moved
   copied-away z d h =
@@ -63,7 +66,7 @@ module _ (s : State) (b : ℕ) (e : Evicts s b) where
     where
       go : (holds b (s .reads) ≡ true) ⊎ (holds b (s .reads) ≡ false) → Away s (putAway z b bytes s d .state)
       go (inl h) = rw h (copied-away z d h)
-      go (inr h) = rw h (record { orderly = e .ready .orderly; sizes = refl; writes = refl; next = omega arith })
+      go (inr h) = rw h stays
 
   -- from the run that put the bytes away
   module _ (z : Sizes) (bytes : List ℕ) (r : Run) {p : Progress} (q : p ≡ after z (putAway z b bytes) s r) where
@@ -71,12 +74,21 @@ module _ (s : State) (b : ℕ) (e : Evicts s b) where
     unfolding after
     dropped-left = dropped-orderly b (p .state) (rw (ap (λ (x : Progress). x .state) q) (away z bytes (r .device) .orderly))
 
-    pub evicted-by : s .sizes ≡ z → bytes ≡ merged z s (r .device) b → record { run = p .run; state = dropWrite b (p .state) } ≡ after z (evict z b) s r
-    unfolding after evict putAway move nothing runAll _then_
-    evicted-by sized h =
+    pub put-out-by : s .sizes ≡ z → bytes ≡ merged z s (r .device) b → record { run = p .run; state = dropWrite b (p .state) } ≡ after z (putOut z b) s r
+    unfolding after putOut putAway move nothing runAll _then_
+    put-out-by sized h =
         ap (λ (x : Progress). record { run = x .run; state = dropWrite b (x .state) }) q
         ∙ ap (λ (l : List ℕ). record { run = runAll z (putAway z b l s (r .device) .stores) r; state = dropWrite b (putAway z b l s (r .device) .state) }) h
         ∙ sym (after-then z (putAway z b (merged z s (r .device) b)) (move (dropWrite b)) (λ t d e. refl) s r sized)
+
+  -- the logs are in the read bucket, or they are put out
+  pub marked-evict : (z : Sizes) (r : Run) → isMarked b (s .writes) ≡ true → record { run = r; state = dropWrite b s } ≡ after z (evict z b) s r
+  unfolding after evict _then_ move nothing runAll
+  marked-evict z r m = rw m
+
+  pub unmarked-evict : (z : Sizes) (r : Run) → isMarked b (s .writes) ≡ false → after z (putOut z b) s r ≡ after z (evict z b) s r
+  unfolding after evict putOut putAway _then_
+  unmarked-evict z r m = rw m
 
   dropped : {t : State} → Away s t → Evicted s (dropWrite b t)
   unfolding dropWrite moved
@@ -87,4 +99,8 @@ module _ (s : State) (b : ℕ) (e : Evicts s b) where
 
   pub evicted : (z : Sizes) (d : Device) → Evicted s (evict z b s d .state)
   unfolding evict putAway _then_ move nothing
-  evicted z d = dropped (away z (merged z s d b) d)
+  evicted z d = go (true-or-false (isMarked b (s .writes)))
+    where
+      go : (isMarked b (s .writes) ≡ true) ⊎ (isMarked b (s .writes) ≡ false) → Evicted s (evict z b s d .state)
+      go (inl m) = rw m (dropped stays)
+      go (inr m) = rw m (dropped (away z (merged z s d b) d))

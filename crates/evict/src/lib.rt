@@ -14,7 +14,7 @@ ghost use Rattle.image.specs.Chip.{spareOnly};
 ghost use Rattle.meter.specs.Run.{running};
 ghost use Rattle.state.specs.View.{placesOf};
 ghost use Rattle.steps.specs.Turns.{reached, after};
-ghost use Rattle.evict.specs.PutAway.{Evicts, putAway};
+ghost use Rattle.evict.specs.PutAway.{Evicts, putAway, putOut};
 
 // With a read bucket the bytes become a Dirty copy, without one the units of the disk.
 fn put_away(
@@ -55,7 +55,7 @@ fn evict_by(
     requires { ⌜ Lent (s .sizes) (now flash) (now spare) (now disk) ⌝ }
     requires { ⌜ Evicts (placesOf s) b × (wellFormed (s .sizes) (spareOnly (now spare)) ≡ true) ⌝ }
     requires { ⌜ length (now buffer) ≡ bucketSize (s .sizes) ⌝ }
-    ensures { λ r. ⌜ reached (now (flash .exit)) (now (spare .exit)) (now (disk .exit)) r ≡ after (s .sizes) (evict (s .sizes) b) (placesOf s) (running (now (flash .entry)) (now (spare .entry)) (now (disk .entry)) meter) ⌝ }
+    ensures { λ r. ⌜ reached (now (flash .exit)) (now (spare .exit)) (now (disk .exit)) r ≡ after (s .sizes) (putOut (s .sizes) b) (placesOf s) (running (now (flash .entry)) (now (spare .entry)) (now (disk .entry)) meter) ⌝ }
     ensures { λ _. ⌜ Lent (s .sizes) (now (flash .exit)) (now (spare .exit)) (now (disk .exit)) ⌝ }
 {
     gather::merged_range(s, b, 0, flash, spare, disk, buffer);
@@ -76,7 +76,7 @@ fn evict_small(
     requires { ⌜ Lent (s .sizes) (now flash) (now spare) (now disk) ⌝ }
     requires { ⌜ Evicts (placesOf s) b × (wellFormed (s .sizes) (spareOnly (now spare)) ≡ true) ⌝ }
     requires { ⌜ bucketSize (s .sizes) ≤ 2048 ⌝ }
-    ensures { λ r. ⌜ reached (now (flash .exit)) (now (spare .exit)) (now (disk .exit)) r ≡ after (s .sizes) (evict (s .sizes) b) (placesOf s) (running (now (flash .entry)) (now (spare .entry)) (now (disk .entry)) meter) ⌝ }
+    ensures { λ r. ⌜ reached (now (flash .exit)) (now (spare .exit)) (now (disk .exit)) r ≡ after (s .sizes) (putOut (s .sizes) b) (placesOf s) (running (now (flash .entry)) (now (spare .entry)) (now (disk .entry)) meter) ⌝ }
     ensures { λ _. ⌜ Lent (s .sizes) (now (flash .exit)) (now (spare .exit)) (now (disk .exit)) ⌝ }
 {
     let mut buffer = [0u8; 2048];
@@ -95,7 +95,7 @@ fn evict_large(
 ) -> Turn
     requires { ⌜ Lent (s .sizes) (now flash) (now spare) (now disk) ⌝ }
     requires { ⌜ Evicts (placesOf s) b × (wellFormed (s .sizes) (spareOnly (now spare)) ≡ true) ⌝ }
-    ensures { λ r. ⌜ reached (now (flash .exit)) (now (spare .exit)) (now (disk .exit)) r ≡ after (s .sizes) (evict (s .sizes) b) (placesOf s) (running (now (flash .entry)) (now (spare .entry)) (now (disk .entry)) meter) ⌝ }
+    ensures { λ r. ⌜ reached (now (flash .exit)) (now (spare .exit)) (now (disk .exit)) r ≡ after (s .sizes) (putOut (s .sizes) b) (placesOf s) (running (now (flash .entry)) (now (spare .entry)) (now (disk .entry)) meter) ⌝ }
     ensures { λ _. ⌜ Lent (s .sizes) (now (flash .exit)) (now (spare .exit)) (now (disk .exit)) ⌝ }
 {
     let mut buffer = [0u8; 65536];
@@ -105,6 +105,29 @@ fn evict_large(
 }
 
 // A bucket of at most 2,048 bytes is gathered in an array of that size: there is less to clear.
+fn put_out(
+    meter: Meter,
+    s: State,
+    b: u16,
+    flash: &mut [u8],
+    spare: &mut [u8],
+    disk: &mut [u8],
+) -> Turn
+    requires { ⌜ Lent (s .sizes) (now flash) (now spare) (now disk) ⌝ }
+    requires { ⌜ Evicts (placesOf s) b × (wellFormed (s .sizes) (spareOnly (now spare)) ≡ true) ⌝ }
+    ensures { λ r. ⌜ reached (now (flash .exit)) (now (spare .exit)) (now (disk .exit)) r ≡ after (s .sizes) (putOut (s .sizes) b) (placesOf s) (running (now (flash .entry)) (now (spare .entry)) (now (disk .entry)) meter) ⌝ }
+    ensures { λ _. ⌜ Lent (s .sizes) (now (flash .exit)) (now (spare .exit)) (now (disk .exit)) ⌝ }
+{
+    let z = s.sizes;
+    let size = z.p * z.s;
+    if size <= 2048 {
+        evict_small(meter, s, b, flash, spare, disk)
+    } else {
+        evict_large(meter, s, b, flash, spare, disk)
+    }
+}
+
+// "just sends the Write bucket to GC" where all its logs are in the read bucket.
 pub fn evict(
     meter: Meter,
     s: State,
@@ -118,11 +141,9 @@ pub fn evict(
     ensures { λ r. ⌜ reached (now (flash .exit)) (now (spare .exit)) (now (disk .exit)) r ≡ after (s .sizes) (evict (s .sizes) b) (placesOf s) (running (now (flash .entry)) (now (spare .entry)) (now (disk .entry)) meter) ⌝ }
     ensures { λ _. ⌜ Lent (s .sizes) (now (flash .exit)) (now (spare .exit)) (now (disk .exit)) ⌝ }
 {
-    let z = s.sizes;
-    let size = z.p * z.s;
-    if size <= 2048 {
-        evict_small(meter, s, b, flash, spare, disk)
-    } else {
-        evict_large(meter, s, b, flash, spare, disk)
+    if s.writes.is_marked(b) {
+        let state = s.drop_write(b);
+        return Turn { meter, state };
     }
+    put_out(meter, s, b, flash, spare, disk)
 }

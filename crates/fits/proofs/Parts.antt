@@ -1,11 +1,11 @@
 -- Number 5 is the sum of its parts.
 use mathlib.Core.Path.{_≡_}
 use mathlib.Core.Bool.{_&&_, and-assoc, and-true}
-use Rattle.lists.specs.Lists.{every}
+use Rattle.lists.specs.Lists.{every, all}
 use Rattle.model.specs.Sizes.{Device, body}
-use Rattle.model.specs.State.{State, queued, eachOnce, stateFits}
+use Rattle.model.specs.State.{State, queued, eachOnce, markFits, stateFits}
 use Rattle.fits.specs.Fits.{queuesFit, tagsAgree, numbersFit}
 
-pub parts : (s : State) (d : Device) → stateFits s d ≡ (eachOnce (body (s .sizes)) (queued s) && (queuesFit s && tagsAgree s d && numbersFit s d))
+pub parts : (s : State) (d : Device) → stateFits s d ≡ (eachOnce (body (s .sizes)) (queued s) && (queuesFit s && tagsAgree s d && numbersFit s d && all (markFits (s .reads)) (s .writes)))
 unfolding stateFits queuesFit tagsAgree numbersFit every
 parts s d = simp (and-assoc, and-true)

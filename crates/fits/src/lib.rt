@@ -8,7 +8,7 @@ ghost use Prim.Native.Nat.{_<_};
 ghost use Rattle.lists.specs.Lists.{all};
 ghost use Rattle.model.specs.Sizes.{body};
 ghost use Rattle.model.specs.Image.{bucketFits, epochOf, wellFormed};
-ghost use Rattle.model.specs.State.{caches, queued, isBelow, readAgrees, writeAgrees, allBlank, topEpoch, stateFits};
+ghost use Rattle.model.specs.State.{caches, queued, isBelow, readAgrees, writeAgrees, allBlank, markFits, topEpoch, stateFits};
 ghost use Rattle.image.specs.Chip.{Chip, spareOnly};
 ghost use Rattle.fifo.specs.View.{listOf};
 ghost use Rattle.queue.specs.View.{entriesOf};
@@ -41,7 +41,8 @@ fn places_fit(s: State, spare: &[u8]) -> bool
     let queues = queues_fit(s);
     let tags = tags_agree(s, spare);
     let numbers = numbers_fit(s, spare);
-    queues & tags & numbers
+    let marks = marks_fit(s.reads, s.writes);
+    queues & tags & numbers & marks
 }
 
 fn queues_fit(s: State) -> bool
@@ -76,6 +77,25 @@ fn numbers_fit(s: State, spare: &[u8]) -> bool
         & (1 <= s.next)
         & (top < s.next)
         & (s.next <= model::EPOCHS_END)
+}
+
+// No mark stands without a read bucket. Marks are few, so the read queue is searched for each.
+fn marks_fit(reads: queue::Queue, writes: queue::Queue) -> bool
+    ensures { λ r. ⌜ r ≡ all (markFits (entriesOf reads)) (entriesOf writes) ⌝ }
+{
+    let n = writes.used();
+    let items = writes.items;
+    let mut i = 0;
+    while i < n {
+        let e = items[i];
+        i += 1;
+        if e.marked {
+            if !reads.holds(e.back) {
+                return false;
+            }
+        }
+    }
+    true
 }
 
 fn epoch_there(z: Sizes, c: usize, spare: &[u8]) -> u32

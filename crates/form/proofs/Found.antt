@@ -9,15 +9,14 @@ use native.Mathlib.Numerals.{unary-clauses}
 use borrow.Author.Tests.{leb-true}
 use lib.ListN.{length, drop, getD, length-append, length-drop}
 use lib.Seq.{getD-drop, drop-drop}
-use lib.Dec.{leb}
+use lib.Dec.{leb, eqb}
 use Rattle.lists.specs.Lists.{if_then_else_}
 use Rattle.lists.specs.Arrays.{joined}
 use Rattle.lists.proofs.Arrays.{joined-fits}
 use Rattle.lists.proofs.Tests.{and-left, and-right}
-use Rattle.model.specs.State.{entry}
 use Rattle.form.specs.Numbers.{numberIn}
 use Rattle.form.specs.Rows.{width, rowIn, rowsIn, tableIn, tableSize, tableFits}
-use Rattle.form.specs.Form.{headWidths, entryWidths, entryFrom, bucketWidths, bucketFrom}
+use Rattle.form.specs.Form.{headWidths, entryWidths, entryFrom, isEntry, bucketWidths, bucketFrom}
 
 -- one byte more
 pub byte-more : (bytes : List ℕ) (at i : ℕ) → numberIn (i + 1) (drop at bytes) ≡ numberIn i (drop at bytes) * 256 + getD bytes (at + i) 0
@@ -58,12 +57,20 @@ byte-number l at =
     let same : at + 0 ≡ at = omega arith in
     omega (arith, rw same at (getD-drop at l 0 0))
 
-pub entry-at : (write : Bool) (l : List ℕ) (at : ℕ) → entryFrom (rowIn (entryWidths write) (drop at l)) ≡ entry (numberIn 2 (drop at l)) (getD l (at + 2) 0) (if write then getD l (at + 3) 0 else 0)
+pub entry-at : (write : Bool) (l : List ℕ) (at : ℕ) → entryFrom (rowIn (entryWidths write) (drop at l))
+    ≡ record { back = numberIn 2 (drop at l); cache = getD l (at + 2) 0; priority = if write then getD l (at + 3) 0 else 0; marked = eqb (if write then getD l (at + 4) 0 else 0) 1 }
 unfolding rowIn entryWidths entryFrom
 entry-at true l at =
     let third : at + 3 ≡ at + 2 + 1 = omega arith in
-    rw third (simp (drop-drop, byte-number) refl)
+    let fourth : at + 4 ≡ at + 2 + 1 + 1 = omega arith in
+    rw (third, fourth) (simp (drop-drop, byte-number) refl)
 entry-at false l at = simp (drop-drop, byte-number) refl
+
+pub mark-at : (l : List ℕ) (at : ℕ) → isEntry (rowIn (entryWidths true) (drop at l)) ≡ leb (getD l (at + 4) 0) 1
+unfolding rowIn entryWidths isEntry
+mark-at l at =
+    let fourth : at + 4 ≡ at + 2 + 1 + 1 = omega arith in
+    rw fourth (simp (drop-drop, byte-number) refl)
 
 pub bucket-at : (l : List ℕ) (at : ℕ) → bucketFrom (rowIn bucketWidths (drop at l)) ≡ getD l at 0
 unfolding rowIn bucketFrom
@@ -75,11 +82,17 @@ count-small c n h small =
     let base : 0 < 256 = omega arith in
     omega (arith, pow-le-pow-right base h)
 
--- a table's rows, of at most four bytes each
-pub rows-small : (c n row : ℕ) → c ≤ 2 → n < 256 ^ c → row ≤ 4 → n * row ≤ 262144
+-- a table's rows, of at most eight bytes each
+pub rows-small : (c n row : ℕ) → c ≤ 2 → n < 256 ^ c → row ≤ 8 → n * row ≤ 524288
 rows-small c n row h small narrow = omega (arith, count-small c n h small, mul-le-mul-left n narrow)
 
 -- ---- the rows of a table, one after the other
+
+pub next-row : (ws bytes : List ℕ) (from n i : ℕ) → i < n → rowsIn ws (n - i) (drop from bytes) ≡ rowIn ws (drop from bytes) ∷ rowsIn ws (n - (i + 1)) (drop (from + width ws) bytes)
+unfolding rowsIn
+next-row ws bytes from n i h =
+    let left : n - i ≡ suc (n - (i + 1)) = omega arith in
+    rw (left, drop-drop (width ws) from bytes)
 
 module _ {A : Type 0} (ws : List ℕ) (made : List ℕ → A) where
   -- of n rows from the place `start` on the first i are made, and the next stands at `from`
@@ -95,14 +108,12 @@ module _ {A : Type 0} (ws : List ℕ) (made : List ℕ → A) where
 
   pub row-made : {bytes : List ℕ} {start n : ℕ} {done : List A} {from i : ℕ} → i < n → Made bytes start n done from i
       → Made bytes start n (done ++ (made (rowIn ws (drop from bytes)) ∷ [])) (from + width ws) (i + 1)
-  unfolding rowsIn
   row-made {bytes} {start} {n} {done} {from} {i} h m =
       let left : n - i ≡ suc (n - (i + 1)) = omega arith in
       let row = made (rowIn ws (drop from bytes)) in
       let rest = map made (rowsIn ws (n - (i + 1)) (drop (from + width ws) bytes)) in
-      let split : map made (rowsIn ws (n - i) (drop from bytes)) ≡ row ∷ rest = rw (left, drop-drop (width ws) from bytes) in
       record {
-        whole = append-assoc done (row ∷ []) rest ∙ sym (ap (λ (l : List A). done ++ l) split) ∙ m .whole;
+        whole = append-assoc done (row ∷ []) rest ∙ sym (ap (λ (l : List (List ℕ)). done ++ map made l) (next-row ws bytes from n i h)) ∙ m .whole;
         counted = length-append done (row ∷ []) ∙ omega (arith, m .counted);
         ends = omega (arith, rw (left, suc-mul (n - (i + 1)) (width ws)) at (m .ends));
       }

@@ -8,12 +8,12 @@ use borrow.Author.Tests.{leb-true, le-leb, lt-ltb, le-ltb, eqb-true, eq-eqb, ne-
 use lib.ListN.{length, drop, length-drop}
 use lib.Seq.{drop-drop}
 use lib.Dec.{leb, eqb}
-use Rattle.lists.specs.Lists.{every}
+use Rattle.lists.specs.Lists.{every, all}
 use Rattle.lists.proofs.Tests.{and-left, and-right, same-truth, every-at}
 use Rattle.form.specs.Numbers.{numberIn}
-use Rattle.form.specs.Rows.{width, tableSize, tableFits, behind}
+use Rattle.form.specs.Rows.{width, tableIn, tableSize, tableFits, behind}
 use Rattle.form.specs.Places.{behindOrBeyond}
-use Rattle.form.specs.Form.{entryWidths, bucketWidths, fromReads, fromWrites, fromGc, fromFree, isForm}
+use Rattle.form.specs.Form.{entryWidths, isEntry, bucketWidths, fromReads, fromWrites, fromGc, fromFree, isForm}
 use Rattle.form.proofs.Found.{head-at}
 
 -- how wide the rows are
@@ -21,7 +21,7 @@ pub read-wide : width (entryWidths false) ≡ 3
 unfolding width entryWidths
 read-wide = refl
 
-pub write-wide : width (entryWidths true) ≡ 4
+pub write-wide : width (entryWidths true) ≡ 5
 unfolding width entryWidths
 write-wide = refl
 
@@ -80,6 +80,7 @@ module _ (l : List ℕ) where
   form-at : isForm l ≡ every
       (leb 19 (length l)
       ∷ leb (numberIn 1 (drop 9 l)) 1
+      ∷ all isEntry (tableIn 1 (entryWidths true) (drop writesAt l))
       ∷ tableFits 1 (entryWidths false) 64 (drop 19 l)
       ∷ tableFits 1 (entryWidths true) 64 (drop writesAt l)
       ∷ tableFits 2 bucketWidths 256 (drop gcAt l)
@@ -133,9 +134,16 @@ module _ (l : List ℕ) where
       go true e more = rw (le-ltb (length l) at inside, e) (more (table-inside (t .count) (t .widths) (t .most) at inside e))
       go false e more = rw (le-ltb (length l) at inside, e, beyond-stays ts (length l + 1) (omega arith)) (ne-eqb (length l + 1) (length l) (λ same. omega arith))
 
-  pub form-stands : 19 ≤ length l → isForm l ≡ (leb (numberIn 1 (drop 9 l)) 1 && standing formTables 19)
+  pub form-stands : 19 ≤ length l → isForm l ≡ (leb (numberIn 1 (drop 9 l)) 1 && (all isEntry (tableIn 1 (entryWidths true) (drop writesAt l)) && standing formTables 19))
   unfolding every
   form-stands long = form-at ∙ rw (le-leb 19 (length l) long)
+
+  -- if each stands whole, the write queue's place is behind the read queue
+  pub writes-behind : 19 ≤ length l → standing formTables 19 ≡ true → (behindOrBeyond l 1 (entryWidths false) 64 19 ≡ writesAt) × (writesAt ≤ length l)
+  unfolding behindOrBeyond
+  writes-behind long stand =
+      let fits : tableFits 1 (entryWidths false) 64 (drop 19 l) ≡ true = and-left _ _ stand in
+      (rw (le-ltb (length l) 19 long, fits), table-inside 1 (entryWidths false) 64 19 long fits)
 
   -- the places of a form lie within it, and each table is there
   pub record Placed : Type 0 where
@@ -152,15 +160,15 @@ module _ (l : List ℕ) where
   placed form =
       let tests = sym form-at ∙ form in
       let long = leb-true 19 (length l) (every-at _ tests 0) in
-      let writes-in = table-inside 1 (entryWidths false) 64 19 long (every-at _ tests 2) in
-      let gc-in = table-inside 1 (entryWidths true) 64 writesAt writes-in (every-at _ tests 3) in
+      let writes-in = table-inside 1 (entryWidths false) 64 19 long (every-at _ tests 3) in
+      let gc-in = table-inside 1 (entryWidths true) 64 writesAt writes-in (every-at _ tests 4) in
       record {
         long = long;
-        reads-fit = every-at _ tests 2;
+        reads-fit = every-at _ tests 3;
         writes-in = writes-in;
-        writes-fit = every-at _ tests 3;
+        writes-fit = every-at _ tests 4;
         gc-in = gc-in;
-        gc-fit = every-at _ tests 4;
-        free-in = table-inside 2 bucketWidths 256 gcAt gc-in (every-at _ tests 4);
-        free-fit = every-at _ tests 5;
+        gc-fit = every-at _ tests 5;
+        free-in = table-inside 2 bucketWidths 256 gcAt gc-in (every-at _ tests 5);
+        free-fit = every-at _ tests 6;
       }

@@ -142,19 +142,27 @@ module _ (ws : List ℕ) where
       let more : n * width ws ≤ length (drop (width ws) l) = omega (arith, length-drop (width ws) l) in
       rw (e, row-bytes ws l (omega arith) h, rows-bytes n (drop (width ws) l) more (all-drop (inBytes 1) (width ws) l h)) (sym (take-add (width ws) (n * width ws) l))
 
+  -- every row passes the test
+  pub rows-pass : (t : List ℕ → Bool) → ((l : List ℕ) → all (inBytes 1) l ≡ true → t (rowIn ws l) ≡ true)
+      → (n : ℕ) (l : List ℕ) → all (inBytes 1) l ≡ true → all t (rowsIn ws n l) ≡ true
+  unfolding all rowsIn
+  rows-pass t each zero l h = refl
+  rows-pass t each (suc n) l h = and-true (each l h) (rows-pass t each n (drop (width ws) l) (all-drop (inBytes 1) (width ws) l h))
+
   module _ {A : Type 0} (f : List ℕ → A) where
     -- what is made of every row passes the test
     pub rows-made : (t : A → Bool) → ((l : List ℕ) → all (inBytes 1) l ≡ true → t (f (rowIn ws l)) ≡ true)
         → (n : ℕ) (l : List ℕ) → all (inBytes 1) l ≡ true → all t (map f (rowsIn ws n l)) ≡ true
-    unfolding all rowsIn
-    rows-made t each zero l h = refl
-    rows-made t each (suc n) l h = and-true (each l h) (rows-made t each n (drop (width ws) l) (all-drop (inBytes 1) (width ws) l h))
+    rows-made t each n l h = all-mapped (λ (r : List ℕ). t (f r)) f t (λ r k. k) (rowsIn ws n l) (rows-pass (λ (r : List ℕ). t (f r)) each n l h)
 
-    -- what is made of every row gives that row
-    rows-kept : (g : A → List ℕ) → ((l : List ℕ) → g (f (rowIn ws l)) ≡ rowIn ws l) → (n : ℕ) (l : List ℕ) → map g (map f (rowsIn ws n l)) ≡ rowsIn ws n l
-    unfolding rowsIn
-    rows-kept g each zero l = refl
-    rows-kept g each (suc n) l = rw (each l, rows-kept g each n (drop (width ws) l))
+    -- what is made of every row gives that row, if they pass a test
+    rows-kept : (t : List ℕ → Bool) (g : A → List ℕ) → ((l : List ℕ) → t (rowIn ws l) ≡ true → g (f (rowIn ws l)) ≡ rowIn ws l)
+        → (n : ℕ) (l : List ℕ) → all t (rowsIn ws n l) ≡ true → map g (map f (rowsIn ws n l)) ≡ rowsIn ws n l
+    unfolding all rowsIn
+    rows-kept t g each zero l h = refl
+    rows-kept t g each (suc n) l h =
+        let more = drop (width ws) l in
+        rw (each l (and-left (t (rowIn ws l)) (all t (rowsIn ws n more)) h), rows-kept t g each n more (and-right (t (rowIn ws l)) (all t (rowsIn ws n more)) h))
 
 -- ---- a table, then the rest
 
@@ -227,8 +235,9 @@ module _ (c : ℕ) (ws : List ℕ) where
 -- ---- a table of values, each of them one row, then the rest
 
 -- what is read of bytes that begin with the table of xs
-pub record Read {A : Type 0} (c : ℕ) (ws : List ℕ) (most : ℕ) (from : List ℕ → A) (xs : List A) (l rest : List ℕ) : Type 0 where
+pub record Read {A : Type 0} (c : ℕ) (ws : List ℕ) (most : ℕ) (to : A → List ℕ) (from : List ℕ → A) (xs : List A) (l rest : List ℕ) : Type 0 where
   pub fits : tableFits c ws most l ≡ true
+  pub rows : tableIn c ws l ≡ map to xs
   pub values : map from (tableIn c ws l) ≡ xs
   pub behind-is : behind c ws l ≡ rest
 
@@ -241,23 +250,25 @@ pub record Written {A : Type 0} (c : ℕ) (ws : List ℕ) (most : ℕ) (to : A �
 
 module _ {A : Type 0} (c : ℕ) (ws : List ℕ) (most : ℕ) (to : A → List ℕ) (from : List ℕ → A) where
   pub values-read : (xs : List A) (l rest : List ℕ) → most < 256 ^ c → leb (length xs) most ≡ true → all (rowFits ws) (map to xs) ≡ true → map from (map to xs) ≡ xs
-      → l ≡ tableBytes c ws (map to xs) ++ rest → Read c ws most from xs l rest
+      → l ≡ tableBytes c ws (map to xs) ++ rest → Read c ws most to from xs l rest
   values-read xs l rest room short fit same e =
       let rows = map to xs in
       let count : length rows ≤ most = rw (length-map xs to) (leb-true (length xs) most short) in
       let fewer : length rows < 256 ^ c = omega arith in
       record {
         fits = rw e (table-fits c ws rows rest fit fewer most count);
+        rows = rw e (table-back c ws rows rest fit fewer);
         values = rw e (ap (map from) (table-back c ws rows rest fit fewer) ∙ same);
         behind-is = rw e (table-behind c ws rows rest fit fewer);
       }
 
-  pub values-written : (t : A → Bool) → ((l : List ℕ) → all (inBytes 1) l ≡ true → t (from (rowIn ws l)) ≡ true) → ((l : List ℕ) → to (from (rowIn ws l)) ≡ rowIn ws l)
-      → (l : List ℕ) → tableFits c ws most l ≡ true → all (inBytes 1) l ≡ true → Written c ws most to t (map from (tableIn c ws l)) l
+  pub values-written : (t : A → Bool) (u : List ℕ → Bool) → ((l : List ℕ) → all (inBytes 1) l ≡ true → t (from (rowIn ws l)) ≡ true)
+      → ((l : List ℕ) → u (rowIn ws l) ≡ true → to (from (rowIn ws l)) ≡ rowIn ws l)
+      → (l : List ℕ) → tableFits c ws most l ≡ true → all u (tableIn c ws l) ≡ true → all (inBytes 1) l ≡ true → Written c ws most to t (map from (tableIn c ws l)) l
   unfolding tableIn behind
-  values-written t made kept l fits h = record {
+  values-written t u made kept l fits pass h = record {
     few = rw (length-map (tableIn c ws l) from) (le-leb (length (tableIn c ws l)) most (table-few c ws most l fits));
     passed = rows-made ws from t made (numberIn c l) (drop c l) (all-drop (inBytes 1) c l h);
-    whole = rw (rows-kept ws from to kept (numberIn c l) (drop c l)) (table-whole c ws most l fits h);
+    whole = rw (rows-kept ws from u to kept (numberIn c l) (drop c l) pass) (table-whole c ws most l fits h);
     behind-bytes = all-drop (inBytes 1) (tableSize c ws l) l h;
   }

@@ -1,13 +1,13 @@
 -- The form of a state: its bytes, numbers high byte first. Its head, then its queues, each a count and so many rows.
 use Prim.Native.Nat.{ℕ}
-use mathlib.Core.Bool.{Bool, true, false}
+use mathlib.Core.Bool.{Bool, true, false, not, _&&_}
 use mathlib.Core.List.{List, [], _∷_, _++_, map}
 use lib.ListN.{length, drop, getD}
 use lib.Dec.{leb, eqb}
 use Rattle.lists.specs.Lists.{if_then_else_, every, all}
 use Rattle.model.specs.declared.Sizes.{Sizes}
 use Rattle.model.specs.declared.Entry.{Entry}
-use Rattle.model.specs.State.{State, entry}
+use Rattle.model.specs.State.{State}
 use Rattle.form.specs.Numbers.{inBytes}
 use Rattle.form.specs.Rows.{width, rowBytes, rowIn, rowFits, tableBytes, tableIn, tableFits, behind}
 
@@ -22,6 +22,7 @@ headWidths = sizeWidths ++ (1 ∷ 1 ∷ 8 ∷ [])
 unfoldable pub sizeNumbers : Sizes → List ℕ
 sizeNumbers z = z .s ∷ z .p ∷ z .c ∷ z .b ∷ z .r ∷ z .w ∷ []
 
+-- a mark is 0 or 1
 unfoldable pub mark : Bool → ℕ
 mark b = if b then 1 else 0
 
@@ -30,17 +31,25 @@ headNumbers s = sizeNumbers (s .sizes) ++ (mark (s .running) ∷ s .accepted ∷
 
 -- ---- rows of the queues
 
--- a write queue's entry: back-end bucket (2), cache bucket (1), priority (1); a read queue's has no priority
+-- a write queue's entry: back-end bucket (2), cache bucket (1), priority (1), mark (1); a read queue's has the buckets alone
 unfoldable pub entryWidths : (write : Bool) → List ℕ
-entryWidths true = 2 ∷ 1 ∷ 1 ∷ []
+entryWidths true = 2 ∷ 1 ∷ 1 ∷ 1 ∷ []
 entryWidths false = 2 ∷ 1 ∷ []
 
 unfoldable pub entryNumbers : (write : Bool) → Entry → List ℕ
-entryNumbers true e = e .back ∷ e .cache ∷ e .priority ∷ []
+entryNumbers true e = e .back ∷ e .cache ∷ e .priority ∷ mark (e .marked) ∷ []
 entryNumbers false e = e .back ∷ e .cache ∷ []
 
 unfoldable pub entryFrom : List ℕ → Entry
-entryFrom ns = entry (getD ns 0 0) (getD ns 1 0) (getD ns 2 0)
+entryFrom ns = record { back = getD ns 0 0; cache = getD ns 1 0; priority = getD ns 2 0; marked = eqb (getD ns 3 0) 1 }
+
+-- a row of the write queue that says an entry: its mark is 0 or 1
+unfoldable pub isEntry : List ℕ → Bool
+isEntry ns = leb (getD ns 3 0) 1
+
+-- an entry of which a row of the read queue says all
+unfoldable pub isPlain : Entry → Bool
+isPlain e = eqb (e .priority) 0 && not (e .marked)
 
 -- a bucket of the GC or the free queue (1)
 abbrev pub bucketWidths : List ℕ
@@ -66,10 +75,7 @@ formOf s = rowBytes headWidths (headNumbers s)
     ++ (entriesForm true (s .writes)
     ++ (bucketsForm (s .gc) ++ bucketsForm (s .free))))
 
-unfoldable pub isUnranked : Entry → Bool
-isUnranked e = eqb (e .priority) 0
-
--- a state that has a form: its sizes and counts have room in their bytes, and its read queue, in which no priority counts, has none
+-- a state that has a form: its sizes and counts have room in their bytes, and its read queue, in which no priority or mark counts, has none
 unfoldable pub hasForm : State → Bool
 hasForm s = every
     (rowFits sizeWidths (sizeNumbers (s .sizes))
@@ -77,7 +83,7 @@ hasForm s = every
     ∷ leb (length (s .writes)) 64
     ∷ leb (length (s .gc)) 256
     ∷ leb (length (s .free)) 256
-    ∷ all isUnranked (s .reads) ∷ [])
+    ∷ all isPlain (s .reads) ∷ [])
 
 -- its other numbers are those of their types, as in every struct
 unfoldable pub entryTyped : Entry → Bool
@@ -107,11 +113,12 @@ fromGc l = behind 1 (entryWidths true) (fromWrites l)
 unfoldable pub fromFree : List ℕ → List ℕ
 fromFree l = behind 2 bucketWidths (fromGc l)
 
--- l is the form of a state: the running mark is 0 or 1, each queue is there and no longer than it may be, and nothing stands behind the last
+-- l is the form of a state: running mark and marks are 0 or 1, each queue is there and no longer than it may be, and nothing stands behind the last
 unfoldable pub isForm : List ℕ → Bool
 isForm l = every
     (leb (width headWidths) (length l)
     ∷ leb (getD (rowIn headWidths l) 6 0) 1
+    ∷ all isEntry (tableIn 1 (entryWidths true) (fromWrites l))
     ∷ tableFits 1 (entryWidths false) 64 (fromReads l)
     ∷ tableFits 1 (entryWidths true) 64 (fromWrites l)
     ∷ tableFits 2 bucketWidths 256 (fromGc l)

@@ -14,16 +14,21 @@ ghost use Rattle.state.specs.View.{viewOf, stateOf};
 ghost use Rattle.form.specs.Form.{formOf, hasForm, isForm, stateIn};
 
 // The bytes of the longest form: `NeverLonger` in specs/Claims.
-pub const LONGEST: usize = 985;
+pub const LONGEST: usize = 1049;
 
 // The head's bytes, and where the running mark, the write count and the next epoch stand in it, behind the sizes.
 const HEAD: usize = 19;
 
-const MARK: usize = 9;
+const RUNNING: usize = 9;
 
 const COUNT: usize = 10;
 
 const EPOCH: usize = 11;
+
+// The bytes of an entry of the read queue, and of the write queue.
+const READ_ROW: usize = 3;
+
+const WRITE_ROW: usize = 5;
 
 // The state's form at the start of `out`, and its length; 0 where it has none, or none that has room there.
 pub fn state_bytes(s: State, out: &mut [u8]) -> usize
@@ -49,12 +54,15 @@ pub fn is_form(bytes: &[u8]) -> bool
     if bytes.len() < HEAD {
         return false;
     }
-    let mark = reading::number_at(bytes, MARK, 1);
-    let writes = reading::behind(bytes, HEAD, 1, 3, 64);
-    let gc = reading::behind(bytes, writes, 1, 4, 64);
+    let running = reading::number_at(bytes, RUNNING, 1);
+    let writes = reading::behind(bytes, HEAD, 1, READ_ROW, 64);
+    let gc = reading::behind(bytes, writes, 1, WRITE_ROW, 64);
     let free = reading::behind(bytes, gc, 2, 1, 256);
     let end = reading::behind(bytes, free, 2, 1, 256);
-    (mark <= 1) & (end == bytes.len())
+    if end != bytes.len() {
+        return false;
+    }
+    (running <= 1) & reading::marks_fit(bytes, writes)
 }
 
 // The state whose form the bytes are; one that was never formatted where they are none.

@@ -10,14 +10,14 @@ ghost use mathlib.Core.Bool.{true};
 ghost use mathlib.Core.List.{List};
 ghost use Prim.Native.Nat.{ℕ, _+_, _^_, _≤_, _<_};
 ghost use lib.ListN.{length, drop, getD};
-ghost use Rattle.lists.specs.Lists.{if_then_else_};
+ghost use Rattle.lists.specs.Lists.{if_then_else_, all};
 ghost use Rattle.fifo.specs.View.{fifoOf};
 ghost use Rattle.queue.specs.View.{queueOf};
 ghost use Rattle.state.specs.View.{stateOf};
 ghost use Rattle.form.specs.Numbers.{numberIn};
-ghost use Rattle.form.specs.Rows.{width, rowIn, tableSize, tableFits};
+ghost use Rattle.form.specs.Rows.{width, rowIn, tableIn, tableSize, tableFits};
 ghost use Rattle.form.specs.Places.{behindOrBeyond};
-ghost use Rattle.form.specs.Form.{headWidths, entryWidths, entryFrom, bucketWidths, isForm, sizesFrom, entriesIn, bucketsIn, stateIn};
+ghost use Rattle.form.specs.Form.{headWidths, entryWidths, entryFrom, isEntry, bucketWidths, isForm, sizesFrom, entriesIn, bucketsIn, stateIn};
 
 // A byte, 0 behind the last.
 fn byte_at(bytes: &[u8], at: usize) -> u8
@@ -61,8 +61,8 @@ fn sizes_in(bytes: &[u8]) -> Sizes
     }
 }
 
-// An entry's priority. A read queue's has none.
-fn priority_at(bytes: &[u8], at: usize, write: bool) -> u8
+// A byte that the write queue's entries alone have: 0 for one of the read queue.
+fn extra_at(bytes: &[u8], at: usize, write: bool) -> u8
     ensures { λ r. ⌜ r ≡ (if write then getD (now (bytes .entry)) at 0 else 0) ⌝ }
 {
     if write { byte_at(bytes, at) } else { 0 }
@@ -74,8 +74,14 @@ fn entry_at(bytes: &[u8], at: usize, write: bool) -> Entry
 {
     let back = number_at(bytes, at, 2);
     let cache = byte_at(bytes, at + 2);
-    let priority = priority_at(bytes, at + 3, write);
-    queue::entry(back as u16, cache, priority)
+    let priority = extra_at(bytes, at + 3, write);
+    let mark = extra_at(bytes, at + 4, write);
+    Entry {
+        back: back as u16,
+        cache,
+        priority,
+        marked: mark == 1,
+    }
 }
 
 // The queue whose form begins at `at`.
@@ -115,7 +121,7 @@ fn fifo_at(bytes: &[u8], at: usize) -> Fifo
 
 // Whether a table stands from `at` on: a count of so many bytes, at most so high, and its rows of so many bytes each.
 fn table_fits(bytes: &[u8], at: usize, count: usize, row: usize, most: usize) -> bool
-    requires { ⌜ (at ≤ length (now bytes)) × (count ≤ 2) × (row ≤ 4) ⌝ }
+    requires { ⌜ (at ≤ length (now bytes)) × (count ≤ 2) × (row ≤ 8) ⌝ }
     ensures { λ r. ⌜ ((ws : List ℕ) → width ws ≡ row → r ≡ tableFits count ws most (drop at (now (bytes .entry)))) ⌝ }
 {
     let rows = number_at(bytes, at, count) as usize;
@@ -124,7 +130,7 @@ fn table_fits(bytes: &[u8], at: usize, count: usize, row: usize, most: usize) ->
 
 // The place behind it.
 fn table_end(bytes: &[u8], at: usize, count: usize, row: usize) -> usize
-    requires { ⌜ (at ≤ length (now bytes)) × (count ≤ 2) × (row ≤ 4) ⌝ }
+    requires { ⌜ (at ≤ length (now bytes)) × (count ≤ 2) × (row ≤ 8) ⌝ }
     ensures { λ r. ⌜ ((ws : List ℕ) → width ws ≡ row → r ≡ at + tableSize count ws (drop at (now (bytes .entry)))) ⌝ }
 {
     let rows = number_at(bytes, at, count) as usize;
@@ -133,7 +139,7 @@ fn table_end(bytes: &[u8], at: usize, count: usize, row: usize) -> usize
 
 // The place behind it if it stands there whole, else one beyond the last byte; the place behind nothing is beyond too.
 pub fn behind(bytes: &[u8], at: usize, count: usize, row: usize, most: usize) -> usize
-    requires { ⌜ (count ≤ 2) × (row ≤ 4) ⌝ }
+    requires { ⌜ (count ≤ 2) × (row ≤ 8) ⌝ }
     ensures { λ r. ⌜ ((ws : List ℕ) → width ws ≡ row → r ≡ behindOrBeyond (now (bytes .entry)) count ws most at) ⌝ }
 {
     if bytes.len() < at {
@@ -145,12 +151,31 @@ pub fn behind(bytes: &[u8], at: usize, count: usize, row: usize, most: usize) ->
     bytes.len() + 1
 }
 
+// Whether each mark of the write queue whose form begins at `at` is 0 or 1.
+pub fn marks_fit(bytes: &[u8], at: usize) -> bool
+    requires { ⌜ at ≤ length (now bytes) ⌝ }
+    ensures { λ r. ⌜ r ≡ all isEntry (tableIn 1 (entryWidths true) (drop at (now (bytes .entry)))) ⌝ }
+{
+    let n = number_at(bytes, at, 1);
+    let mut from = at + 1;
+    let mut i = 0;
+    while i < n {
+        let mark = byte_at(bytes, from + 4);
+        if 1 < mark {
+            return false;
+        }
+        from += crate::WRITE_ROW;
+        i += 1;
+    }
+    true
+}
+
 pub fn state_in(bytes: &[u8]) -> State
     requires { ⌜ isForm (now bytes) ≡ true ⌝ }
     ensures { λ r. ⌜ r ≡ stateOf (stateIn (now (bytes .entry))) ⌝ }
 {
-    let writes_at = table_end(bytes, crate::HEAD, 1, 3);
-    let gc_at = table_end(bytes, writes_at, 1, 4);
+    let writes_at = table_end(bytes, crate::HEAD, 1, crate::READ_ROW);
+    let gc_at = table_end(bytes, writes_at, 1, crate::WRITE_ROW);
     let free_at = table_end(bytes, gc_at, 2, 1);
     let sizes = sizes_in(bytes);
     let reads = queue_at(bytes, crate::HEAD, false);
@@ -165,6 +190,6 @@ pub fn state_in(bytes: &[u8]) -> State
         sizes,
         next: number_at(bytes, crate::EPOCH, 8),
         accepted: bytes[crate::COUNT],
-        running: bytes[crate::MARK] == 1,
+        running: bytes[crate::RUNNING] == 1,
     }
 }

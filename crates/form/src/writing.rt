@@ -15,7 +15,7 @@ ghost use Rattle.queue.specs.View.{entriesOf};
 ghost use Rattle.state.specs.View.{placesOf, viewOf};
 ghost use Rattle.form.specs.Numbers.{numberBytes};
 ghost use Rattle.form.specs.Rows.{width, rowBytes, rowFits};
-ghost use Rattle.form.specs.Form.{sizeWidths, sizeNumbers, mark, headWidths, headNumbers, entryWidths, entryNumbers, bucketWidths, bucketNumbers, isUnranked, entriesForm, bucketsForm, formOf, hasForm};
+ghost use Rattle.form.specs.Form.{sizeWidths, sizeNumbers, mark, headWidths, headNumbers, entryWidths, entryNumbers, bucketWidths, bucketNumbers, isPlain, entriesForm, bucketsForm, formOf, hasForm};
 
 // The number in so many bytes from `at` on, the last of them first.
 fn put_number(out: &mut [u8], at: usize, width: usize, number: u64)
@@ -43,10 +43,10 @@ fn put_sizes(out: &mut [u8], z: Sizes)
     put_number(out, 8, 1, z.w as u64);
 }
 
-fn mark(running: bool) -> u64
-    ensures { λ r. ⌜ r ≡ mark running ⌝ }
+fn mark(on: bool) -> u64
+    ensures { λ r. ⌜ r ≡ mark on ⌝ }
 {
-    if running { 1 } else { 0 }
+    if on { 1 } else { 0 }
 }
 
 fn put_head(out: &mut [u8], s: State)
@@ -54,16 +54,20 @@ fn put_head(out: &mut [u8], s: State)
     ensures { λ _. ⌜ now (out .exit) ≡ splice (now (out .entry)) 0 (rowBytes headWidths (headNumbers (placesOf s))) ⌝ }
 {
     put_sizes(out, s.sizes);
-    put_number(out, crate::MARK, 1, mark(s.running));
+    put_number(out, crate::RUNNING, 1, mark(s.running));
     put_number(out, crate::COUNT, 1, s.accepted as u64);
     put_number(out, crate::EPOCH, 8, s.next);
 }
 
-// The bytes of an entry. A read queue's has no priority.
+// The bytes of an entry.
 pub fn entry_size(write: bool) -> usize
     ensures { λ r. ⌜ r ≡ width (entryWidths write) ⌝ }
 {
-    if write { 4 } else { 3 }
+    if write {
+        crate::WRITE_ROW
+    } else {
+        crate::READ_ROW
+    }
 }
 
 fn put_entry(out: &mut [u8], at: usize, e: Entry, write: bool)
@@ -74,6 +78,7 @@ fn put_entry(out: &mut [u8], at: usize, e: Entry, write: bool)
     put_number(out, at + 2, 1, e.cache as u64);
     if write {
         put_number(out, at + 3, 1, e.priority as u64);
+        put_number(out, at + 4, 1, mark(e.marked));
     }
 }
 
@@ -134,8 +139,8 @@ fn put_fifo(out: &mut [u8], at: usize, queue: Fifo) -> usize
 pub fn form_size(s: State) -> usize
     ensures { λ r. ⌜ r ≡ length (formOf (placesOf s)) ⌝ }
 {
-    let reads = s.reads.used() * 3;
-    let writes = s.writes.used() * 4;
+    let reads = s.reads.used() * crate::READ_ROW;
+    let writes = s.writes.used() * crate::WRITE_ROW;
     25 + reads + writes + s.gc.used() + s.free.used()
 }
 
@@ -157,14 +162,21 @@ fn sizes_fit(z: Sizes) -> bool
     chip & (z.b < 65536) & (z.r < 256) & (z.w < 256)
 }
 
-fn unranked(items: [Entry; 64], n: usize) -> bool
+// Whether a read queue's row says all of the entry.
+fn is_plain(e: Entry) -> bool
+    ensures { λ r. ⌜ r ≡ isPlain e ⌝ }
+{
+    (e.priority == 0) & !e.marked
+}
+
+fn all_plain(items: [Entry; 64], n: usize) -> bool
     requires { ⌜ n ≤ 64 ⌝ }
-    ensures { λ r. ⌜ r ≡ all isUnranked (take n items) ⌝ }
+    ensures { λ r. ⌜ r ≡ all isPlain (take n items) ⌝ }
 {
     let mut i = 0;
     while i < n {
         let e = items[i];
-        if e.priority != 0 {
+        if !is_plain(e) {
             return false;
         }
         i += 1;
@@ -182,5 +194,5 @@ pub fn has_form(s: State) -> bool
     let reads = s.reads;
     let n = reads.used();
     let items = reads.items;
-    sizes_fit(s.sizes) & unranked(items, n)
+    sizes_fit(s.sizes) & all_plain(items, n)
 }

@@ -15,16 +15,16 @@ use Rattle.model.specs.declared.Victim.{Victim}
 use Rattle.model.specs.declared.Victim.the-variants.{Nobody, Bucket}
 use Rattle.model.specs.Sizes.{Device, pagesFor}
 use Rattle.model.specs.Stores.{applyAll}
-use Rattle.model.specs.Spare.{readKind, dirtyKind}
-use Rattle.model.specs.State.{State, moved, holds}
+use Rattle.model.specs.Spare.{dirtyKind}
+use Rattle.model.specs.State.{State, moved, holds, isMarked}
 use Rattle.model.specs.Steps.{Step, nothing, _then_, move, taken, dropWrite, takeCopy, merged, fillCopy, copy, writeOut, evict}
-use Rattle.model.specs.Operations.{lastEpoch, counted, recorded, accept, takeWrite, fits, outgoing, evictAny, makeWay, appendLog, startLog, write, touch, withoutOldest, dropOldest, read}
+use Rattle.model.specs.Operations.{lastEpoch, counted, recorded, accept, takeWrite, fits, outgoing, evictAny, makeWay, appendLog, startLog, write, touch, withoutOldest, dropOldest, read, isCurrent, setMark, makePlace, readCopy}
 use Rattle.model.specs.Calls.{planOf}
 use Rattle.model.specs.Allocations.{evictAllocations, writeAllocations, readAllocations, findsBucket, Allocates, AllocatesAlways}
 use Rattle.model.proofs.Steps.{room-there}
 use Rattle.model.proofs.Calling.{Passed, read-passed}
 use Rattle.model.proofs.Write.{write-passed}
-use Rattle.model.proofs.ProgramsRise.{some, oldest-rises, way-opens}
+use Rattle.model.proofs.ProgramsRise.{some, place-rises, way-opens}
 
 -- ---- epochs
 
@@ -60,20 +60,24 @@ module _ (s : State) (d : Device) (pass : Passed s d) where
   evict-finds : (v : Victim) → all (findsBucket s d) (evictAllocations v s) ≡ true
   unfolding evictAllocations all
   evict-finds Nobody = refl
-  evict-finds (Bucket v) = go (true-or-false (holds v (s .reads)))
+  evict-finds (Bucket v) = go (true-or-false (isMarked v (s .writes))) (true-or-false (holds v (s .reads)))
     where
-      go : (holds v (s .reads) ≡ true) ⊎ (holds v (s .reads) ≡ false) → all (findsBucket s d) (evictAllocations (Bucket v) s) ≡ true
-      go (inl h) = rw h (and-true finds-at-once refl)
-      go (inr h) = rw h
+      go : (isMarked v (s .writes) ≡ true) ⊎ (isMarked v (s .writes) ≡ false) → (holds v (s .reads) ≡ true) ⊎ (holds v (s .reads) ≡ false)
+          → all (findsBucket s d) (evictAllocations (Bucket v) s) ≡ true
+      go (inl m) h = rw m
+      go (inr m) (inl h) = rw (m, h) (and-true finds-at-once refl)
+      go (inr m) (inr h) = rw (m, h)
 
   evict-next : (v : Victim) → evictAny (s .sizes) v s d .state .next ≡ s .next + length (evictAllocations v s)
   unfolding evictAllocations evictAny nothing evict _then_ move dropWrite writeOut moved
   evict-next Nobody = omega arith
-  evict-next (Bucket v) = go (true-or-false (holds v (s .reads)))
+  evict-next (Bucket v) = go (true-or-false (isMarked v (s .writes))) (true-or-false (holds v (s .reads)))
     where
-      go : (holds v (s .reads) ≡ true) ⊎ (holds v (s .reads) ≡ false) → evictAny z (Bucket v) s d .state .next ≡ s .next + length (evictAllocations (Bucket v) s)
-      go (inl h) = rw h (copy-next z dirtyKind v (merged z s d v) s d (some s d pass))
-      go (inr h) = rw h (omega arith)
+      go : (isMarked v (s .writes) ≡ true) ⊎ (isMarked v (s .writes) ≡ false) → (holds v (s .reads) ≡ true) ⊎ (holds v (s .reads) ≡ false)
+          → evictAny z (Bucket v) s d .state .next ≡ s .next + length (evictAllocations (Bucket v) s)
+      go (inl m) h = rw m (omega arith)
+      go (inr m) (inl h) = rw (m, h) (copy-next z dirtyKind v (merged z s d v) s d (some s d pass))
+      go (inr m) (inr h) = rw (m, h) (omega arith)
 
   write-allocates : (b off : ℕ) (bytes : List ℕ) → Allocates s d (writeAllocations b (length bytes) s d) (write (s .sizes) b off bytes s d)
   unfolding writeAllocations write makeWay _then_ appendLog startLog accept counted recorded takeWrite taken moved all
@@ -94,27 +98,31 @@ module _ (s : State) (d : Device) (pass : Passed s d) where
 
   -- ---- a read
 
-  -- on a read miss
-  miss-allocates : (k b : ℕ) → Allocates s d (dropOldest (s .sizes) ∷ []) ((dropOldest (s .sizes) then copy (s .sizes) k b (merged (s .sizes) s d b)) s d)
-  unfolding _then_ all
-  miss-allocates k b =
-      let left = oldest-rises s d pass .1 .some-there in
+  place-next : (b : ℕ) → makePlace (s .sizes) b s d .state .next ≡ s .next
+  unfolding makePlace nothing
+  place-next b = go (true-or-false (holds b (s .reads)))
+    where
+      go : (holds b (s .reads) ≡ true) ⊎ (holds b (s .reads) ≡ false) → makePlace z b s d .state .next ≡ s .next
+      go (inl r) = rw r
+      go (inr r) = rw r (oldest-next z s d)
+
+  copy-read-allocates : (b : ℕ) → Allocates s d (makePlace (s .sizes) b ∷ []) (readCopy (s .sizes) b (merged (s .sizes) s d b) s d)
+  unfolding readCopy _then_ move nothing setMark moved all
+  copy-read-allocates b =
+      let left = place-rises s d pass b .1 .some-there in
       record {
-        finds = and-true (finds-after (dropOldest z) left) refl;
-        epochs = copy-next z k b (merged z s d b) (dropOldest z s d .state) _ left ∙ ap (λ (n : ℕ). n + 1) (oldest-next z s d);
+        finds = and-true (finds-after (makePlace z b) left) refl;
+        epochs = copy-next z _ b (merged z s d b) (makePlace z b s d .state) _ left ∙ ap (λ (n : ℕ). n + 1) (place-next b);
       }
 
   read-allocates : (b : ℕ) → Allocates s d (readAllocations b s d) (read (s .sizes) b s d)
   unfolding readAllocations read nothing move touch moved all
-  read-allocates b = go (true-or-false (ltb lastEpoch (s .next))) (true-or-false (holds b (s .reads))) (true-or-false (holds b (s .writes)))
+  read-allocates b = go (true-or-false (ltb lastEpoch (s .next))) (true-or-false (isCurrent b s))
     where
-      go : (ltb lastEpoch (s .next) ≡ true) ⊎ (ltb lastEpoch (s .next) ≡ false) → (holds b (s .reads) ≡ true) ⊎ (holds b (s .reads) ≡ false)
-          → (holds b (s .writes) ≡ true) ⊎ (holds b (s .writes) ≡ false) → Allocates s d (readAllocations b s d) (read z b s d)
-      go (inl e) r w = rw e (record { finds = refl; epochs = omega arith })
-      go (inr e) (inl r) (inl w) = rw (e, r, w) (record { finds = and-true finds-at-once refl; epochs = copy-next z dirtyKind b (merged z s d b) s d (some s d pass) })
-      go (inr e) (inl r) (inr w) = rw (e, r, w) (record { finds = refl; epochs = omega arith })
-      go (inr e) (inr r) (inl w) = rw (e, r, w) (miss-allocates dirtyKind b)
-      go (inr e) (inr r) (inr w) = rw (e, r, w) (miss-allocates readKind b)
+      go : (ltb lastEpoch (s .next) ≡ true) ⊎ (ltb lastEpoch (s .next) ≡ false) → (isCurrent b s ≡ true) ⊎ (isCurrent b s ≡ false) → Allocates s d (readAllocations b s d) (read z b s d)
+      go (inl e) c = rw e (record { finds = refl; epochs = omega arith })
+      go (inr e) (inl c) = rw (e, c) (record { finds = refl; epochs = omega arith })
+      go (inr e) (inr c) = rw (e, c) (copy-read-allocates b)
 
 pub allocates-always : AllocatesAlways
 unfolding planOf

@@ -2,7 +2,7 @@
 use Prim.Native.Nat.{ℕ, _+_, _*_, _/_, _%_, _≤_, _<_}
 use mathlib.Core.Path.{_≡_, refl, sym, ap, _∙_, subst}
 use mathlib.Core.Logic.{_⊎_, inl, inr}
-use mathlib.Core.Bool.{true, false, not, _&&_}
+use mathlib.Core.Bool.{true, false, not, _&&_, true≢false}
 use mathlib.Core.List.{List, [], append-nil}
 use native.Mathlib.Omega.{arith}
 use native.Mathlib.Nat.{mul-pos, div-add-mod', mod-lt}
@@ -17,7 +17,7 @@ use Rattle.model.specs.declared.Sizes.{Sizes}
 use Rattle.model.specs.Sizes.{Device, limits, bucketSize}
 use Rattle.model.specs.Stores.{applyAll, diskBytes}
 use Rattle.model.specs.Image.{isDirty}
-use Rattle.model.specs.State.{State, moved, holds, cacheOf, caches}
+use Rattle.model.specs.State.{State, moved, holds, cacheOf, isMarked, caches, recordOf, entry}
 use Rattle.model.specs.Steps.{merged}
 use Rattle.model.specs.Operations.{unclean, drainStores, isUnclean, isClean, drained, drain}
 use Rattle.model.specs.Tests.{}
@@ -102,7 +102,7 @@ module _ (z : Sizes) (B : Limits z) (plain : List ℕ) (s : State) (d : Device) 
   -- ---- its state
 
   inside-drained : Inside z plain (drain z s d .state) after
-  unfolding drain moved caches times isClean isUnclean
+  unfolding drain moved caches times isMarked recordOf entry isClean isUnclean
   inside-drained = record {
     sizes-are = j .sizes-are;
     plain-length = j .plain-length;
@@ -111,6 +111,7 @@ module _ (z : Sizes) (B : Limits z) (plain : List ℕ) (s : State) (d : Device) 
     once = λ c. omega (arith, times-selected (unclean z d s) (s .reads) c, times-append c (s .gc) (drained z d s), times-drained z d s (B .p-low) plain after stored c) ∙ j .once c;
     reads = reads-selected (λ b. not (unclean z d s b)) z after (s .reads) (stored .reads);
     writes = no-writes z after;
+    marks = λ b h. absurd (true≢false (sym h));
     few-reads = omega (arith, length-selected (λ b. not (unclean z d s b)) (s .reads), j .few-reads);
     few-writes = omega arith;
     free-blank = stored .free-blank;

@@ -13,7 +13,7 @@ use Rattle.model.specs.declared.Entry.{Entry}
 use Rattle.model.specs.Sizes.{Device, bucketSize}
 use Rattle.model.specs.Stores.{applyAll}
 use Rattle.model.specs.Spare.{dirtyKind}
-use Rattle.model.specs.State.{State, moved, holds, without}
+use Rattle.model.specs.State.{State, moved, holds, isMarked, without}
 use Rattle.model.specs.Steps.{Step, nothing, _then_, move, dropWrite, merged, copy, writeOut, evict}
 use Rattle.model.proofs.Limits.{Limits}
 use Rattle.model.proofs.Safe.{plainAt}
@@ -50,11 +50,16 @@ module _ (z : Sizes) (B : Limits z) (plain : List ℕ) (s : State) (d : Device) 
       (nothing-good z plain (dropWrite b (f s d .state)) (applyAll z d (f s d .stores)) _
       (write-dropped z (B .p-low) plain (f s d .state) (applyAll z d (f s d .stores)) (g .1) b w (subst (λ (l : List Entry). Maps l b w) (sym e) m) (st (g .1))))
 
-  with-copy : s .next < 4294967296 → holds b (s .reads) ≡ true → Good z plain ((copy z dirtyKind b (merged z s d b) then move (dropWrite b)) s d) d
-  with-copy room h =
-      let f = copy-fresh z B plain b dirtyKind hb (inr refl) (merged z s d b) len (λ i q. bytes-plain i) s d j room (λ q. absurd (omega arith)) in
+  -- the logs are in the read bucket
+  with-mark : isMarked b (s .writes) ≡ true → Good z plain ((nothing then move (dropWrite b)) s d) d
+  unfolding nothing applyAll
+  with-mark q = let a = j .marks b q in leaves nothing (nothing-good z plain s d d j) refl (λ i. in-copy (a .cache) (a .maps) (a .dirty) (a .content))
+
+  with-copy : isMarked b (s .writes) ≡ false → s .next < 4294967296 → holds b (s .reads) ≡ true → Good z plain ((copy z dirtyKind b (merged z s d b) then move (dropWrite b)) s d) d
+  with-copy u room h =
+      let f = copy-fresh z B plain b dirtyKind hb (inr refl) (merged z s d b) len (λ i q. bytes-plain i) s d j room (λ q. absurd (omega arith)) u in
       leaves (copy z dirtyKind b (merged z s d b))
-      (copy-good z B plain b dirtyKind hb (inr refl) (merged z s d b) len (λ i q. bytes-plain i) s d j room (λ q. absurd (omega arith)) (inl h)) (f .writes-same)
+      (copy-good z B plain b dirtyKind hb (inr refl) (merged z s d b) len (λ i q. bytes-plain i) s d j room (λ q. absurd (omega arith)) u (inl h)) (f .writes-same)
       (λ i. in-copy (f .cache) (f .maps) (f .dirty ∙ eq-eqb dirtyKind dirtyKind refl) (f .content))
 
   with-disk : holds b (s .reads) ≡ false → Good z plain ((writeOut z b (merged z s d b) then move (dropWrite b)) s d) d
@@ -67,18 +72,20 @@ module _ (z : Sizes) (B : Limits z) (plain : List ℕ) (s : State) (d : Device) 
 
   pub evict-good : s .next < 4294967296 → Good z plain (evict z b s d) d
   unfolding evict
-  evict-good room = go (true-or-false (holds b (s .reads)))
+  evict-good room = go (true-or-false (isMarked b (s .writes))) (true-or-false (holds b (s .reads)))
     where
-      go : (holds b (s .reads) ≡ true) ⊎ (holds b (s .reads) ≡ false) → Good z plain (evict z b s d) d
-      go (inl h) = rw h (with-copy room h)
-      go (inr n) = rw n (with-disk n)
+      go : (isMarked b (s .writes) ≡ true) ⊎ (isMarked b (s .writes) ≡ false) → (holds b (s .reads) ≡ true) ⊎ (holds b (s .reads) ≡ false) → Good z plain (evict z b s d) d
+      go (inl u) h = rw u (with-mark u)
+      go (inr u) (inl h) = rw (u, h) (with-copy u room h)
+      go (inr u) (inr n) = rw (u, n) (with-disk n)
 
   pub evicted : s .next < 4294967296 → Evicted b s (evict z b s d .state)
   unfolding evict _then_ move nothing writeOut dropWrite moved
-  evicted room = go (true-or-false (holds b (s .reads)))
+  evicted room = go (true-or-false (isMarked b (s .writes))) (true-or-false (holds b (s .reads)))
     where
-      go : (holds b (s .reads) ≡ true) ⊎ (holds b (s .reads) ≡ false) → Evicted b s (evict z b s d .state)
-      go (inl h) =
-          let f = copy-fresh z B plain b dirtyKind hb (inr refl) (merged z s d b) len (λ i q. bytes-plain i) s d j room (λ q. absurd (omega arith)) in
-          rw h (record { writes-are = ap (without b) (f .writes-same); next-near = omega (arith, f .next-is) })
-      go (inr n) = rw n (record { writes-are = refl; next-near = omega arith })
+      go : (isMarked b (s .writes) ≡ true) ⊎ (isMarked b (s .writes) ≡ false) → (holds b (s .reads) ≡ true) ⊎ (holds b (s .reads) ≡ false) → Evicted b s (evict z b s d .state)
+      go (inl u) h = rw u (record { writes-are = refl; next-near = omega arith })
+      go (inr u) (inl h) =
+          let f = copy-fresh z B plain b dirtyKind hb (inr refl) (merged z s d b) len (λ i q. bytes-plain i) s d j room (λ q. absurd (omega arith)) u in
+          rw (u, h) (record { writes-are = ap (without b) (f .writes-same); next-near = omega (arith, f .next-is) })
+      go (inr u) (inr n) = rw (u, n) (record { writes-are = refl; next-near = omega arith })

@@ -15,7 +15,7 @@ use Rattle.model.specs.declared.Sizes.{Sizes}
 use Rattle.model.specs.Sizes.{Device, limits, lengths, body}
 use Rattle.model.specs.Stores.{applyAll, tagOf, diskBytes}
 use Rattle.model.specs.Image.{pageFits, epochOf}
-use Rattle.model.specs.State.{holds, caches, backs}
+use Rattle.model.specs.State.{holds, isMarked, caches, backs, recordOf, entry}
 use Rattle.model.specs.Operations.{format}
 use Rattle.model.proofs.Views.{uncopied, bare}
 use Rattle.model.proofs.Safe.{givesOf, holdsOf, plainAt, Safe, Chip, Inv}
@@ -97,7 +97,7 @@ module _ (z : Sizes) (fits : limits z ≡ true) (d : Device) (lent : lengths z d
       given c i (some x) q = blank-gives z wiped c p-pos (wiped-blank c (on-chip z c (gives-write z wiped c b i x q .0))) b i
 
   formatted-inside : Inside z (d .disk) (format z .state) (gone z d (below (z .c)))
-  unfolding format caches times
+  unfolding format caches times isMarked recordOf entry
   formatted-inside = record {
     sizes-are = refl;
     plain-length = L .disk-is;
@@ -106,6 +106,7 @@ module _ (z : Sizes) (fits : limits z ≡ true) (d : Device) (lent : lengths z d
     once = λ c. omega (arith, times-below c (body z));
     reads = no-reads z wiped;
     writes = no-writes z wiped;
+    marks = λ b h. absurd (true≢false (sym h));
     few-reads = omega arith;
     few-writes = omega arith;
     free-blank = λ c t k hk. wiped-blank c (on-chip z c (below-in (body z) c t)) k hk;

@@ -17,7 +17,7 @@ use Rattle.model.specs.Stores.{erase}
 use Rattle.model.specs.Image.{epochOf, backOf, isWrite, complete}
 use Rattle.model.specs.State.{State, caches, queued}
 use Rattle.model.proofs.Limits.{on-chip}
-use Rattle.model.proofs.Safe.{givesOf, holdsOf, found, Safe, Chip, Sound, Ready}
+use Rattle.model.proofs.Safe.{givesOf, holdsOf, found, Safe, Chip, Sound, Ready, Marks}
 use Rattle.model.proofs.Frames.{Lengths, lengths-of}
 use Rattle.model.proofs.Show.{Same, backOf-same, holds-same}
 use Rattle.model.proofs.Prefix.{along-start, along-end}
@@ -48,6 +48,7 @@ module _ (z : Sizes) where
     pub once : (c : ℕ) → places s c ≡ (if ltb c (body z) then 1 else 0)
     pub reads : Reads z d (s .reads)
     pub writes : Writes z d (s .writes)
+    pub marks : Marks z plain d (s .reads) (s .writes)
     pub few-reads : length (s .reads) ≤ z .r
     pub few-writes : length (s .writes) ≤ z .w
     pub free-blank : (c : ℕ) → 1 ≤ times c (s .free) → Blank z d c

@@ -26,6 +26,7 @@ use Rattle.model.proofs.Formed.{epoch-top, top-least}
 use Rattle.model.proofs.Buckets.{holds-parts, holds-from}
 use Rattle.model.proofs.Queues.{Maps, maps-times}
 use Rattle.model.proofs.QueuesGrown.{maps-all, all-maps}
+use Rattle.model.proofs.Marks.{marks-test}
 use Rattle.model.proofs.QueuesShown.{priorityFits, Reads, Writes}
 use Rattle.model.proofs.Inside.{places, places-queued, Inside, sound, in-chip, a-place}
 
@@ -97,6 +98,7 @@ module _ (s : State) (d : Device) (plain : List ℕ) (chip : Chip (s .sizes) d) 
     once = once-of (body z) s (every-at _ (live .fits) 0);
     reads = reads-of (every-at _ (live .fits) 0) (every-at _ (live .fits) 3) (every-at _ (live .fits) 5);
     writes = writes-of (every-at _ (live .fits) 4) (every-at _ (live .fits) 6);
+    marks = live .marks;
     few-reads = leb-true _ _ (every-at _ (live .fits) 1);
     few-writes = leb-true _ _ (every-at _ (live .fits) 2);
     free-blank = blanks-of z d (s .free) (every-at _ (live .fits) 7);
@@ -151,13 +153,15 @@ module _ (s : State) (d : Device) (plain : List ℕ) (j : Inside (s .sizes) plai
       (every-more _ _ (le-leb _ _ (j .accepted-low))
       (every-more _ _ (le-leb _ _ (j .next-low))
       (every-more _ _ (lt-ltb (topEpoch (s .sizes) d) (s .next) (omega (arith, j .next-low, top-least (s .sizes) d (s .next - 1) (λ c hc. omega (arith, j .next-above c hc)))))
-      (every-more _ _ (le-leb _ _ (j .next-high)) every-none)))))))))))
+      (every-more _ _ (le-leb _ _ (j .next-high))
+      (every-more _ _ (marks-test (s .sizes) plain d (s .reads) (s .writes) (j .writes .write-once) (j .marks)) every-none))))))))))))
 
   live-of : Live (s .sizes) s d plain
   live-of = record {
     fits = fits-of;
     ready = j .ready;
     newest-reads = λ b h x q. j .reads .newest-copy b (cacheOf b (s .reads)) (record { held = h; is = refl }) x q;
+    marks = j .marks;
     newest-writes = λ b h x i ne. j .writes .newest-logs b (cacheOf b (s .writes)) (record { held = h; is = refl }) x i ne;
   }
 

@@ -7,6 +7,7 @@ pub mod Induction
 pub mod Companions
 pub mod Queues
 pub mod QueuesGrown
+pub mod Marks
 pub mod Limits
 pub mod Tags
 pub mod Frames

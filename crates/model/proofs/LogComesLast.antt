@@ -18,7 +18,7 @@ use Rattle.model.specs.Sizes.{Device, pagesFor}
 use Rattle.model.specs.Stores.{Store, program, erase, unit, applyAll, unitStores}
 use Rattle.model.specs.Spare.{writeKind, dirtyKind, kind, tagBytes}
 use Rattle.model.specs.Image.{epochOf, blanks}
-use Rattle.model.specs.State.{State, holds, cacheOf}
+use Rattle.model.specs.State.{State, holds, cacheOf, isMarked}
 use Rattle.model.specs.Steps.{Step, nothing, _then_, move, eraseStep, makeRoom, dropWrite, logStore, logStores, merged, fillCopy, copy, writeOut, evict}
 use Rattle.model.specs.Operations.{fits, outgoing, evictAny, makeWay, appendLog, startLog, write}
 use Rattle.model.specs.Calls.{Call, writeCall, refusal, sizesOf, planOf, doneAnswer, carryOut, call}
@@ -75,11 +75,12 @@ module _ (z : Sizes) where
 
   evict-makes-way : (v : ℕ) (s : State) (d : Device) → all makesWay (evict z v s d .stores) ≡ true
   unfolding evict move nothing writeOut all
-  evict-makes-way v s d = go (true-or-false (holds v (s .reads)))
+  evict-makes-way v s d = go (true-or-false (isMarked v (s .writes))) (true-or-false (holds v (s .reads)))
     where
-      go : (holds v (s .reads) ≡ true) ⊎ (holds v (s .reads) ≡ false) → all makesWay (evict z v s d .stores) ≡ true
-      go (inl h) = rw h (then-makes-way (copy z dirtyKind v (merged z s d v)) (move (dropWrite v)) s d (copy-makes-way v (merged z s d v) s d) (λ t e. refl))
-      go (inr h) = rw h (then-makes-way (writeOut z v (merged z s d v)) (move (dropWrite v)) s d (none-makes-way (unitStores z v (merged z s d v)) (none-units z v (merged z s d v))) (λ t e. refl))
+      go : (isMarked v (s .writes) ≡ true) ⊎ (isMarked v (s .writes) ≡ false) → (holds v (s .reads) ≡ true) ⊎ (holds v (s .reads) ≡ false) → all makesWay (evict z v s d .stores) ≡ true
+      go (inl m) h = rw m (then-makes-way nothing (move (dropWrite v)) s d refl (λ t e. refl))
+      go (inr m) (inl h) = rw (m, h) (then-makes-way (copy z dirtyKind v (merged z s d v)) (move (dropWrite v)) s d (copy-makes-way v (merged z s d v) s d) (λ t e. refl))
+      go (inr m) (inr h) = rw (m, h) (then-makes-way (writeOut z v (merged z s d v)) (move (dropWrite v)) s d (none-makes-way (unitStores z v (merged z s d v)) (none-units z v (merged z s d v))) (λ t e. refl))
 
   any-makes-way : (v : Victim) (s : State) (d : Device) → all makesWay (evictAny z v s d .stores) ≡ true
   unfolding evictAny nothing all

@@ -3,7 +3,7 @@ use Prim.Native.Nat.{ℕ, _-_, _≤_, _<_}
 use mathlib.Core.Path.{_≡_, refl, ap, _∙_}
 use mathlib.Core.Logic.{_⊎_, inl, inr}
 use mathlib.Core.Bool.{Bool, true, false}
-use mathlib.Core.List.{List, [], _++_}
+use mathlib.Core.List.{List, [], _++_, map}
 use native.Mathlib.Omega.{arith}
 use lib.ListN.{length, getD}
 use lib.Dec.{leb, ltb}
@@ -16,9 +16,9 @@ use Rattle.model.specs.Sizes.{Device, pagesFor, body}
 use Rattle.model.specs.Stores.{applyAll, bucketBytes, unitStores}
 use Rattle.model.specs.Spare.{blank, readKind, writeKind, dirtyKind}
 use Rattle.model.specs.Image.{epochOf, isDirty, blanks}
-use Rattle.model.specs.State.{State, moved, entry, holds, cacheOf, cachesOf, without, stateFits}
+use Rattle.model.specs.State.{State, moved, entry, holds, cacheOf, cachesOf, without, stateFits, isMarked, remarked}
 use Rattle.model.specs.Steps.{Plan, Step, nothing, _then_, move, eraseStep, makeRoom, taken, dropWrite, takeCopy, merged, fillCopy, copy, writeOut, evict, freed}
-use Rattle.model.specs.Operations.{lastEpoch, victim, fits, makeWay, appendLog, startLog, write, dropOldest, read, unclean, drainStores, drain, format, outgoing, evictAny, withoutOldest}
+use Rattle.model.specs.Operations.{lastEpoch, victim, fits, makeWay, appendLog, startLog, write, dropOldest, read, unclean, drainStores, drain, format, outgoing, evictAny, withoutOldest, isCurrent, makePlace, readCopy}
 use Rattle.model.specs.Recover.{isRescued, rescued, rescueStores, recover}
 use Rattle.model.specs.Calls.{formatCall, readCall, writeCall, eraseCall, drainCall, recoverCall, sizesOf, planOf}
 use Rattle.model.specs.StoresMade.{Rising, ProgramsRise}
@@ -105,14 +105,14 @@ module _ (s : State) (d : Device) (pass : Passed s d) where
 
   module _ (b r : ℕ) (m : Maps (s .reads) b r) where
     abbrev left : State
-    left = moved s (without b (s .reads)) (s .writes) (s .gc ++ cachesOf b (s .reads)) (s .free)
+    left = moved s (without b (s .reads)) (map (remarked b false) (s .writes)) (s .gc ++ cachesOf b (s .reads)) (s .free)
 
-    left-pool : (e : Device) → Pool (s .sizes) s e → Pool (s .sizes) (moved s (without b (s .reads)) (s .writes) (s .gc ++ cachesOf b (s .reads)) (s .free)) e
+    left-pool : (e : Device) → Pool (s .sizes) s e → Pool (s .sizes) (moved s (without b (s .reads)) (map (remarked b false) (s .writes)) (s .gc ++ cachesOf b (s .reads)) (s .free)) e
     unfolding moved
     left-pool e pool = pool-moved z s left e e pool refl (pool .lens) (λ c. omega arith)
         (below-grown (body z) (s .gc) (cachesOf b (s .reads)) gc-in (given-up (s .reads) b (body z) (reads-in s d pass b))) (λ c q k hk. refl)
 
-    left-able : Able (moved s (without b (s .reads)) (s .writes) (s .gc ++ cachesOf b (s .reads)) (s .free))
+    left-able : Able (moved s (without b (s .reads)) (map (remarked b false) (s .writes)) (s .gc ++ cachesOf b (s .reads)) (s .free))
     unfolding moved
     left-able = record {
       some-there = inr (rw (cachesOf-one (s .reads) b r m) (grown-some (s .gc) r));
@@ -121,7 +121,7 @@ module _ (s : State) (d : Device) (pass : Passed s d) where
 
     left-rises : Rises (s .sizes) (record {
       stores = if isDirty (s .sizes) d r then unitStores (s .sizes) b (bucketBytes (s .sizes) d r) else [];
-      state = moved s (without b (s .reads)) (s .writes) (s .gc ++ cachesOf b (s .reads)) (s .free);
+      state = moved s (without b (s .reads)) (map (remarked b false) (s .writes)) (s .gc ++ cachesOf b (s .reads)) (s .free);
     }) d
     unfolding applyAll Rising writeOut
     left-rises = go (true-or-false (isDirty z d r))
@@ -146,20 +146,36 @@ module _ (s : State) (d : Device) (pass : Passed s d) where
   copied : (k b : ℕ) → k < 4 → b < s .sizes .b → (t : State) (e : Device) → Pool (s .sizes) t e → Able t → Rises (s .sizes) (copy (s .sizes) k b (merged (s .sizes) s d b) t e) e
   copied k b hk hb t e pool able = copy-rises z t e pool (able .some-there) (able .reads-there) k b (merged z s d b) hk (merged-pages b hb)
 
+  pub place-rises : (b : ℕ) → Rises (s .sizes) (makePlace (s .sizes) b s d) d × Able (makePlace (s .sizes) b s d .state)
+  unfolding makePlace nothing
+  place-rises b = go (true-or-false (holds b (s .reads)))
+    where
+      go : (holds b (s .reads) ≡ true) ⊎ (holds b (s .reads) ≡ false) → Rises z (makePlace z b s d) d × Able (makePlace z b s d .state)
+      go (inl r) = rw r (nothing-rises z s d d start, record { some-there = some; reads-there = reads-in s d pass })
+      go (inr r) = rw r oldest-rises
+
+  copy-read-rises : (b : ℕ) → b < s .sizes .b → Rising (s .sizes) d (readCopy (s .sizes) b (merged (s .sizes) s d b) s d .stores)
+  unfolding readCopy _then_ move nothing Rising
+  copy-read-rises b hb =
+      let place = place-rises b in
+      let k = if holds b (s .writes) then dirtyKind else readKind in
+      let t = makePlace z b s d .state in
+      let e = applyAll z d (makePlace z b s d .stores) in
+      rising-append z (makePlace z b s d .stores) _ d (place .0 .rising)
+      (rising-append z (copy z k b (merged z s d b) t e .stores) [] e (copied k b (go (holds b (s .writes))) hb t e (place .0 .pool) (place .1) .rising) tt)
+    where
+      go : (t : Bool) → (if t then dirtyKind else readKind) < 4
+      go true = omega arith
+      go false = omega arith
+
   read-rises : (b : ℕ) → b < s .sizes .b → Rising (s .sizes) d (read (s .sizes) b s d .stores)
   unfolding read nothing move Rising
-  read-rises b hb = go (true-or-false (ltb lastEpoch (s .next))) (true-or-false (holds b (s .reads))) (true-or-false (holds b (s .writes)))
+  read-rises b hb = go (true-or-false (ltb lastEpoch (s .next))) (true-or-false (isCurrent b s))
     where
-      miss : (k : ℕ) → k < 4 → Rises z ((dropOldest z then copy z k b (merged z s d b)) s d) d
-      miss k hk = then-rises z (dropOldest z) (copy z k b (merged z s d b)) s d refl (oldest-rises .0) (copied k b hk hb _ _ (oldest-rises .0 .pool) (oldest-rises .1))
-
-      go : (ltb lastEpoch (s .next) ≡ true) ⊎ (ltb lastEpoch (s .next) ≡ false) → (holds b (s .reads) ≡ true) ⊎ (holds b (s .reads) ≡ false)
-          → (holds b (s .writes) ≡ true) ⊎ (holds b (s .writes) ≡ false) → Rising z d (read z b s d .stores)
-      go (inl e) r w = rw e tt
-      go (inr e) (inl r) (inl w) = rw (e, r, w) (copied dirtyKind b (omega arith) hb s d start (record { some-there = some; reads-there = reads-in s d pass }) .rising)
-      go (inr e) (inl r) (inr w) = rw (e, r, w) tt
-      go (inr e) (inr r) (inl w) = rw (e, r, w) (miss dirtyKind (omega arith) .rising)
-      go (inr e) (inr r) (inr w) = rw (e, r, w) (miss readKind (omega arith) .rising)
+      go : (ltb lastEpoch (s .next) ≡ true) ⊎ (ltb lastEpoch (s .next) ≡ false) → (isCurrent b s ≡ true) ⊎ (isCurrent b s ≡ false) → Rising z d (read z b s d .stores)
+      go (inl e) c = rw e tt
+      go (inr e) (inl c) = rw (e, c) tt
+      go (inr e) (inr c) = rw (e, c) (copy-read-rises b hb)
 
   -- ---- a write
 
@@ -187,15 +203,16 @@ module _ (s : State) (d : Device) (pass : Passed s d) where
     }
 
     evict-opens : Opens (evict (s .sizes) v s d)
-    unfolding evict writeOut
-    evict-opens = go (true-or-false (holds v (s .reads)))
+    unfolding evict writeOut nothing
+    evict-opens = go (true-or-false (isMarked v (s .writes))) (true-or-false (holds v (s .reads)))
       where
         hv : v < z .b
         hv = write-back s d pass v w maps-v
 
-        go : (holds v (s .reads) ≡ true) ⊎ (holds v (s .reads) ≡ false) → Opens (evict z v s d)
-        go (inl q) = rw q (leaves (copy z dirtyKind v (merged z s d v)) (copied dirtyKind v (omega arith) hv s d start (record { some-there = some; reads-there = reads-in s d pass })) (copy-writes z dirtyKind v (merged z s d v) s d some))
-        go (inr q) = rw q (leaves (writeOut z v (merged z s d v)) (units-rise z s d start v hv (merged z s d v) (merged-size s d pass v hv)) refl)
+        go : (isMarked v (s .writes) ≡ true) ⊎ (isMarked v (s .writes) ≡ false) → (holds v (s .reads) ≡ true) ⊎ (holds v (s .reads) ≡ false) → Opens (evict z v s d)
+        go (inl m) q = rw m (leaves nothing (nothing-rises z s d d start) refl)
+        go (inr m) (inl q) = rw (m, q) (leaves (copy z dirtyKind v (merged z s d v)) (copied dirtyKind v (omega arith) hv s d start (record { some-there = some; reads-there = reads-in s d pass })) (copy-writes z dirtyKind v (merged z s d v) s d some))
+        go (inr m) (inr q) = rw (m, q) (leaves (writeOut z v (merged z s d v)) (units-rise z s d start v hv (merged z s d v) (merged-size s d pass v hv)) refl)
 
   pub way-opens : (b : ℕ) → Opens (makeWay (s .sizes) b s d)
   unfolding makeWay outgoing evictAny nothing

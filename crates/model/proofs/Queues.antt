@@ -12,7 +12,7 @@ use Rattle.lists.specs.Lists.{keep, times, distinct}
 use Rattle.lists.proofs.Tests.{true-or-false}
 use Rattle.lists.proofs.Counts.{times-self, times-other, times-cons, distinct-times, times-distinct}
 use Rattle.model.specs.declared.Entry.{Entry}
-use Rattle.model.specs.State.{isOf, isOther, holds, cacheOf, cachesOf, without, cacheBucket, backBucket, caches, backs}
+use Rattle.model.specs.State.{isOf, isOther, holds, cacheOf, cachesOf, without, cacheBucket, backBucket, caches, backs, recordOf}
 
 -- the back-end bucket b has the cache bucket c in the queue
 pub record Maps (l : List Entry) (b c : ℕ) : Type 0 where
@@ -25,17 +25,25 @@ absent n m = true≢false (sym (m .held) ∙ n)
 -- ---- the first entry
 
 module _ (e : Entry) (l : List Entry) (b : ℕ) where
+  pub record-here : e .back ≡ b → recordOf b (e ∷ l) ≡ e
+  unfolding recordOf isOf
+  record-here q = rw (eq-eqb (e .back) b q)
+
+  pub record-there : e .back ≢ b → recordOf b (e ∷ l) ≡ recordOf b l
+  unfolding recordOf isOf
+  record-there ne = rw (ne-eqb (e .back) b ne)
+
   pub maps-here : e .back ≡ b → Maps (e ∷ l) b (e .cache)
-  unfolding holds cacheOf isOf
-  maps-here q = record { held = rw (eq-eqb (e .back) b q); is = rw (eq-eqb (e .back) b q) }
+  unfolding holds cacheOf cacheBucket isOf
+  maps-here q = record { held = rw (eq-eqb (e .back) b q); is = ap cacheBucket (record-here q) }
 
   pub holds-there : e .back ≢ b → holds b (e ∷ l) ≡ holds b l
   unfolding holds isOf
   holds-there ne = rw (ne-eqb (e .back) b ne)
 
   pub cacheOf-there : e .back ≢ b → cacheOf b (e ∷ l) ≡ cacheOf b l
-  unfolding cacheOf isOf
-  cacheOf-there ne = rw (ne-eqb (e .back) b ne)
+  unfolding cacheOf cacheBucket
+  cacheOf-there ne = ap cacheBucket (record-there ne)
 
   pub maps-there : (c : ℕ) → e .back ≢ b → Maps l b c → Maps (e ∷ l) b c
   maps-there c ne m = record { held = holds-there ne ∙ m .held; is = cacheOf-there ne ∙ m .is }

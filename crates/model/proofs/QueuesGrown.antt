@@ -12,8 +12,8 @@ use Rattle.lists.proofs.Tests.{and-left, and-right, and-true}
 use Rattle.lists.proofs.Rows.{map-append}
 use Rattle.lists.proofs.Counts.{times-other, times-one, times-append, distinct-times, times-distinct}
 use Rattle.model.specs.declared.Entry.{Entry}
-use Rattle.model.specs.State.{isOf, holds, cacheOf, without, cacheBucket, backBucket, caches, backs}
-use Rattle.model.proofs.Queues.{Maps, absent, maps-here, maps-there, maps-first, holds-there, distinct-rest, absent-times, without-here, without-there}
+use Rattle.model.specs.State.{isOf, holds, cacheOf, without, cacheBucket, backBucket, caches, backs, recordOf}
+use Rattle.model.proofs.Queues.{Maps, absent, maps-here, maps-there, maps-first, holds-there, distinct-rest, absent-times, without-here, without-there, cacheOf-there}
 
 -- ---- an entry more
 
@@ -89,9 +89,13 @@ module _ (f : Entry → Entry) (k : Keeps f) where
   holds-map (e ∷ l) b = rw (k e .0) (ap (λ (t : Bool). if eqb (e .back) b then true else t) (holds-map l b))
 
   pub cacheOf-map : (l : List Entry) (b : ℕ) → cacheOf b (map f l) ≡ cacheOf b l
-  unfolding cacheOf isOf
+  unfolding cacheOf recordOf
   cacheOf-map [] b = refl
-  cacheOf-map (e ∷ l) b = rw (k e .0, k e .1) (ap (λ (c : ℕ). if eqb (e .back) b then e .cache else c) (cacheOf-map l b))
+  cacheOf-map (e ∷ l) b = go (ℕ-discrete (e .back) b) (cacheOf-map l b)
+    where
+      go : Dec (e .back ≡ b) → cacheOf b (map f l) ≡ cacheOf b l → cacheOf b (map f (e ∷ l)) ≡ cacheOf b (e ∷ l)
+      go (yes q) r = maps-here (f e) (map f l) b (k e .0 ∙ q) .is ∙ (k e .1 ∙ sym (maps-here e l b q .is))
+      go (no ne) r = cacheOf-there (f e) (map f l) b (λ q. ne (sym (k e .0) ∙ q)) ∙ (r ∙ sym (cacheOf-there e l b ne))
 
   pub maps-map : (l : List Entry) (b c : ℕ) → Maps (map f l) b c → Maps l b c
   maps-map l b c m = record { held = sym (holds-map l b) ∙ m .held; is = sym (cacheOf-map l b) ∙ m .is }

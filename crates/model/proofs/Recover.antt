@@ -26,12 +26,13 @@ use Rattle.model.proofs.Buckets.{holds-parts, holds-from}
 use Rattle.model.proofs.Units.{plain-bytes, dirty-copy}
 use Rattle.model.proofs.UnitRuns.{MayWrite, Ran, units-run}
 use Rattle.model.proofs.QueuesShown.{reads-kept, writes-kept}
+use Rattle.model.proofs.Marks.{marked-none}
 use Rattle.model.proofs.Inside.{Inside}
 use Rattle.model.proofs.Calling.{pays-good}
 use Rattle.model.proofs.BucketKinds.{back-below, complete-copy, copy-used, write-used}
 use Rattle.model.proofs.RecoverChoice.{Chosen, dropped-write, dropped-copy, flushed-by, unsaved-by, drop-saves, head-chosen}
 use Rattle.model.proofs.RecoverBytes.{recovered-plain}
-use Rattle.model.proofs.RecoverQueues.{once-recovered, reads-recovered, writes-recovered, few-reads-recovered, few-writes-recovered, free-recovered}
+use Rattle.model.proofs.RecoverQueues.{once-recovered, reads-recovered, writes-recovered, unmarked-recovered, few-reads-recovered, few-writes-recovered, free-recovered}
 use Rattle.model.proofs.RecoverErase.{Rescued, ready-recovered}
 
 module _ (z : Sizes) (B : Limits z) (d : Device) (plain : List ℕ) (sound : Sound z plain d) where
@@ -150,6 +151,7 @@ module _ (z : Sizes) (B : Limits z) (d : Device) (plain : List ℕ) (sound : Sou
     once = once-recovered z d;
     reads = reads-kept z (B .p-low) d after (recover z d .state .reads) (λ b c m. still c) (λ b c h q. still c) (reads-recovered z d F);
     writes = writes-kept z (B .p-low) d after (recover z d .state .writes) (λ b c m. still c) (λ b c i h. inl (still c)) (writes-recovered z d F);
+    marks = λ b h. absurd (marked-none (recover z d .state .writes) (unmarked-recovered z d) b h);
     few-reads = few-reads-recovered z d F;
     few-writes = few-writes-recovered z d F;
     free-blank = λ c t k hk. still c .tags-same k hk ∙ free-recovered z d F c t k hk;

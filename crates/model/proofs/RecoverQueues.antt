@@ -27,6 +27,7 @@ use Rattle.model.proofs.Formed.{Formed, unused-blank}
 use Rattle.model.proofs.Buckets.{gives-write, holds-parts, holds-from}
 use Rattle.model.proofs.Retire.{none-unless}
 use Rattle.model.proofs.Queues.{Maps, maps-first}
+use Rattle.model.proofs.Marks.{isUnmarked}
 use Rattle.model.proofs.QueuesShown.{priorityFits, Reads, Writes}
 use Rattle.model.proofs.Inside.{places}
 use Rattle.model.proofs.BucketKinds.{complete-copy, copy-used, write-used}
@@ -198,6 +199,14 @@ module _ (z : Sizes) (d : Device) where
   unfolding all priorityFits entry blanks
   blanks-fit [] = refl
   blanks-fit (c ∷ l) = and-true (le-leb (blanks z d c) (z .p) (count-le (z .p) (pageBlank z d c))) (blanks-fit l)
+
+  pub unmarked-recovered : all isUnmarked (recover z d .state .writes) ≡ true
+  unfolding recover keptWrite all isUnmarked entry
+  unmarked-recovered = go (byEpoch z d (keptWrites z d))
+    where
+      go : (l : List ℕ) → all isUnmarked (slots (blanks z d) l) ≡ true
+      go [] = refl
+      go (c ∷ l) = go l
 
   module _ (F : Formed z d) where
     in-reads : (b c : ℕ) → Maps (recover z d .state .reads) b c → (1 ≤ times c (keptCopies z d)) × (backOf z d c ≡ b)

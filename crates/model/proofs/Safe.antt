@@ -10,14 +10,16 @@ use lib.Dec.{leb, ltb, eqb}
 use Rattle.lists.specs.Lists.{if_then_else_, part}
 use Rattle.model.specs.declared.Sizes.{Sizes}
 use Rattle.model.specs.declared.Answer.the-variants.{Done, Cut}
+use Rattle.model.specs.declared.Entry.{Entry}
 use Rattle.model.specs.Sizes.{Device, limits, lengths, bucketSize, body}
 use Rattle.model.specs.Stores.{Store, erase, apply, applyAll, tagOf, bucketBytes, diskBytes}
 use Rattle.model.specs.Spare.{offset, extent}
 use Rattle.model.specs.Image.{epochOf, wellFormed, backOf, isWrite, isDirty, complete, endsLog, logBytes}
-use Rattle.model.specs.State.{State, holds, cacheOf, topEpoch, stateFits}
+use Rattle.model.specs.State.{State, holds, cacheOf, topEpoch, stateFits, isMarked}
 use Rattle.model.specs.Calls.{Call, refusal, planOf}
 use Rattle.model.specs.Promise.{feed}
 use Rattle.model.proofs.Views.{View, SafeAt}
+use Rattle.model.proofs.Queues.{Maps}
 
 module _ (z : Sizes) where
   -- ---- what a device shows
@@ -79,15 +81,28 @@ module _ (z : Sizes) where
   abbrev pub Ready : List ℕ → List ℕ → Device → Type 0
   Ready plain gs d = Along (Safe plain) d (map erase gs)
 
+  -- ---- marked records
+
+  -- a true mark: b's read bucket is Dirty and has the plain disk's bytes, those of b's complete logs among them
+  pub record Absorbed (plain : List ℕ) (d : Device) (reads : List Entry) (b : ℕ) : Type 0 where
+    pub cache : ℕ
+    pub maps : Maps reads b cache
+    pub dirty : isDirty z d cache ≡ true
+    pub content : (i : ℕ) → getD (bucketBytes z d cache) i 0 ≡ plainAt plain b i
+
+  abbrev pub Marks : List ℕ → Device → (reads writes : List Entry) → Type 0
+  Marks plain d reads writes = (b : ℕ) → isMarked b writes ≡ true → Absorbed plain d reads b
+
   -- ---- between two calls
 
-  -- of a running state: number 5 holds, the GC queue may be erased at any time, and queued buckets are the newest of their back-end bucket
+  -- of a running state: number 5 holds, the GC queue may be erased at any time, queued buckets are the newest of their back-end bucket, and marks are true
   pub record Live (s : State) (d : Device) (plain : List ℕ) : Type 0 where
     pub fits : stateFits s d ≡ true
     pub ready : Ready plain (s .gc) d
     pub newest-reads : (b : ℕ) → holds b (s .reads) ≡ true → (c : ℕ) → holdsOf d c b ≡ true → epochOf z d c ≤ epochOf z d (cacheOf b (s .reads))
     pub newest-writes : (b : ℕ) → holds b (s .writes) ≡ true → (c i : ℕ) → c ≢ cacheOf b (s .writes)
         → (givesOf d c b i ≡ none) ⊎ (epochOf z d c ≤ epochOf z d (cacheOf b (s .writes)))
+    pub marks : Marks plain d (s .reads) (s .writes)
 
   pub record Inv (s : State) (d : Device) (plain : List ℕ) : Type 0 where
     pub sizes-are : s .sizes ≡ z

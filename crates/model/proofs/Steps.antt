@@ -26,6 +26,7 @@ use Rattle.model.proofs.Prefix.{applyAll-append, along-append}
 use Rattle.model.proofs.FormedKept.{chip-erase}
 use Rattle.model.proofs.Buckets.{blank-epoch, blank-gives, blank-holds}
 use Rattle.model.proofs.Queues.{maps-times}
+use Rattle.model.proofs.Marks.{marks-kept}
 use Rattle.model.proofs.QueuesShown.{reads-kept, writes-kept}
 use Rattle.model.proofs.Inside.{places, places-queued, Inside, lens, sound, in-chip, one-place}
 
@@ -115,6 +116,7 @@ module _ (z : Sizes) (p-pos : 1 ≤ z .p) (plain : List ℕ) (s : State) (d : De
           (λ b c h q. other c (λ e. true≢false (sym q ∙ rw e (blank-holds z (apply z d (erase g)) g p-pos g-blank b)))) (j .reads);
       writes = writes-kept z p-pos d (apply z d (erase g)) (s .writes) (λ b c m. other c (not-g c (omega (arith, maps-times (s .writes) b c m))))
           (λ b c i h. gives b c i (ℕ-discrete c g)) (j .writes);
+      marks = marks-kept z plain p-pos d (apply z d (erase g)) (s .reads) (s .reads) (s .writes) (λ b c h m. (m, other c (not-g c (omega (arith, maps-times (s .reads) b c m))))) (j .marks);
       few-reads = j .few-reads;
       few-writes = j .few-writes;
       free-blank = λ c t k hk. free c t k hk (ℕ-discrete c g);

@@ -15,23 +15,24 @@ use Rattle.model.specs.declared.Sizes.{Sizes}
 use Rattle.model.specs.Sizes.{Device, body}
 use Rattle.model.specs.Stores.{erase, apply}
 use Rattle.model.specs.Image.{epochOf, backOf, complete}
-use Rattle.model.specs.State.{State, moved, entry, holds, cacheOf, cachesOf, without, caches}
+use Rattle.model.specs.State.{State, moved, entry, holds, cacheOf, cachesOf, without, caches, isMarked}
 use Rattle.model.specs.Steps.{taken, takeCopy}
 use Rattle.model.proofs.Limits.{on-chip}
 use Rattle.model.proofs.Views.{SafeAt, Newest}
 use Rattle.model.proofs.Retire.{retire-others}
-use Rattle.model.proofs.Safe.{view, givesOf, holdsOf, plainAt, Safe, Ready}
+use Rattle.model.proofs.Safe.{view, givesOf, holdsOf, plainAt, Safe, Ready, Marks}
 use Rattle.model.proofs.Frames.{Lengths, lengths-of}
 use Rattle.model.proofs.Show.{Same, same-trans, backOf-same, complete-same, epochOf-same, holds-same}
 use Rattle.model.proofs.Prefix.{along-end}
 use Rattle.model.proofs.Copy.{Copied}
 use Rattle.model.proofs.Buckets.{holds-parts, copy-silent}
-use Rattle.model.proofs.Queues.{Maps, absent-without, maps-without, cachesOf-none, cachesOf-one, times-without, length-without, maps-times}
-use Rattle.model.proofs.QueuesGrown.{times-grown}
+use Rattle.model.proofs.Queues.{Maps, absent-without, maps-without, cachesOf-none, cachesOf-one, times-without, length-without, maps-times, without-maps}
+use Rattle.model.proofs.QueuesGrown.{times-grown, maps-older}
 use Rattle.model.proofs.QueuesShown.{Reads, Writes, reads-kept, writes-kept, reads-without, reads-grown}
 use Rattle.model.proofs.QueuesErased.{gone, gone-lengths, gone-same}
 use Rattle.model.proofs.Inside.{Inside, lens, in-chip, one-place, gc-below}
 use Rattle.model.proofs.StepsJoin.{erased-view, safe-erased, joined}
+use Rattle.model.proofs.Marks.{marks-kept}
 
 module _ (z : Sizes) (p-pos : 1 ≤ z .p) (plain : List ℕ) (s : State) (d e : Device) (j : Inside z plain s d) (b k : ℕ) (has-free : empty (s .free) ≡ false)
     (run : Copied z plain (s .gc) (head (s .free)) b (s .next) k d e) where
@@ -141,9 +142,14 @@ module _ (z : Sizes) (p-pos : 1 ≤ z .p) (plain : List ℕ) (s : State) (d e : 
       go (inl h) = omega (arith, length-without (s .reads) b, ap length (cachesOf-one (s .reads) b (cacheOf b (s .reads)) (record { held = h; is = refl })), j .few-reads)
       go (inr h) = omega (arith, length-without (s .reads) b)
 
-  pub copied-inside : s .next < 4294967296 → (holds b (s .reads) ≡ true) ⊎ (length (s .reads) < z .r) → Inside z plain (takeCopy b s) e
+  -- b's own record is not marked
+  marks-after : isMarked b (s .writes) ≡ false → Marks z plain e (without b (s .reads) ++ (entry b (head (s .free)) 0 ∷ [])) (s .writes)
+  marks-after n = marks-kept z plain p-pos d e (s .reads) (without b (s .reads) ++ (entry b c 0 ∷ [])) (s .writes)
+      (λ b' x h m. (maps-older (entry b c 0) (without b (s .reads)) b' x (without-maps (s .reads) b b' x (λ q. true≢false (sym h ∙ (ap (λ (y : ℕ). isMarked y (s .writes)) (sym q) ∙ n))) m), read-still b' x m)) (j .marks)
+
+  pub copied-inside : isMarked b (s .writes) ≡ false → s .next < 4294967296 → (holds b (s .reads) ≡ true) ⊎ (length (s .reads) < z .r) → Inside z plain (takeCopy b s) e
   unfolding takeCopy taken moved entry
-  copied-inside room fewer = record {
+  copied-inside unmarked room fewer = record {
     sizes-are = j .sizes-are;
     plain-length = j .plain-length;
     chip = run .chip;
@@ -151,6 +157,7 @@ module _ (z : Sizes) (p-pos : 1 ≤ z .p) (plain : List ℕ) (s : State) (d e : 
     once = λ x. omega (arith, count x, times-grown (entry b c 0) (without b (s .reads)) x, times-without (s .reads) b (j .reads .read-once) x, times-append x (s .gc) (cachesOf b (s .reads))) ∙ j .once x;
     reads = reads-after;
     writes = writes-after;
+    marks = marks-after unmarked;
     few-reads = few-after fewer;
     few-writes = j .few-writes;
     free-blank = λ x t k' hk. run .still x (not-c x (omega arith)) .tags-same k' hk ∙ j .free-blank x (omega (arith, count x)) k' hk;

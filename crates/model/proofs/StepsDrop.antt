@@ -5,11 +5,11 @@ use mathlib.Core.Path.{_≡_, refl, sym, ap, _∙_}
 use mathlib.Core.Logic.{_⊎_, inl, inr, _≢_}
 use mathlib.Core.Bool.{true, false, true≢false}
 use mathlib.Core.Option.{Option, none, some}
-use mathlib.Core.List.{List, _++_}
+use mathlib.Core.List.{List, _++_, map}
 use native.Mathlib.Omega.{arith}
 use native.Mathlib.Nat.{le-of-eq}
 use native.Mathlib.Decide.{ℕ-discrete}
-use lib.ListN.{length, getD}
+use lib.ListN.{length, getD, length-map}
 use Rattle.lists.specs.Lists.{times}
 use Rattle.lists.proofs.Tests.{true-or-false}
 use Rattle.lists.proofs.Counts.{times-only, times-self, times-append}
@@ -18,20 +18,22 @@ use Rattle.model.specs.declared.Entry.{Entry}
 use Rattle.model.specs.Sizes.{Device, body}
 use Rattle.model.specs.Stores.{erase, apply, bucketBytes, diskBytes}
 use Rattle.model.specs.Image.{epochOf, backOf, isDirty, complete}
-use Rattle.model.specs.State.{State, moved, holds, cachesOf, without, caches}
+use Rattle.model.specs.State.{State, moved, holds, cachesOf, without, caches, remarked}
 use Rattle.model.specs.Steps.{dropWrite}
 use Rattle.model.proofs.Limits.{on-chip}
 use Rattle.model.proofs.Views.{Lay, SafeAt, safe-drop}
 use Rattle.model.proofs.Retire.{retire-copies}
-use Rattle.model.proofs.Safe.{view, givesOf, holdsOf, plainAt, Chip, Ready}
+use Rattle.model.proofs.Safe.{view, givesOf, holdsOf, plainAt, Chip, Ready, Marks}
 use Rattle.model.proofs.Frames.{Lengths, disk-erased, tag-erased}
-use Rattle.model.proofs.Show.{Same, same-trans, gives-same, holds-same, epochOf-same, backOf-same, isDirty-same, complete-same}
+use Rattle.model.proofs.Show.{Same, same-trans, gives-same, holds-same, epochOf-same, backOf-same, isDirty-same, complete-same, same-refl}
 use Rattle.model.proofs.Buckets.{blank-gives, blank-holds, holds-parts, copy-silent}
-use Rattle.model.proofs.Queues.{Maps, absent, cachesOf-one, times-without, length-without, maps-times}
+use Rattle.model.proofs.Queues.{Maps, absent, cachesOf-one, times-without, length-without, maps-times, without-maps}
 use Rattle.model.proofs.QueuesShown.{Reads, Writes, reads-kept, writes-kept, reads-without, writes-without}
 use Rattle.model.proofs.QueuesErased.{gone, gone-disk}
 use Rattle.model.proofs.Inside.{Inside, lens, in-chip, one-place, gc-below, swept-lengths, swept-safe, read-same, write-same, who-gives, who-holds}
 use Rattle.model.proofs.StepsJoin.{same-left, erased-view, safe-erased, joined}
+use Rattle.model.proofs.QueuesGrown.{caches-map}
+use Rattle.model.proofs.Marks.{keeps-remarked, marked-without, marked-cleared, writes-remarked, marks-fewer, marks-kept}
 
 -- ---- a device that shows the same buckets
 
@@ -44,6 +46,7 @@ same-inside z p-pos plain s d e j chip ready still = record {
   once = j .once;
   reads = reads-kept z p-pos d e (s .reads) (λ b c m. still c) (λ b c h q. still c) (j .reads);
   writes = writes-kept z p-pos d e (s .writes) (λ b c m. still c) (λ b c i h. inl (still c)) (j .writes);
+  marks = marks-kept z plain p-pos d e (s .reads) (s .reads) (s .writes) (λ b c h m. (m, still c)) (j .marks);
   few-reads = j .few-reads;
   few-writes = j .few-writes;
   free-blank = λ c t k hk. still c .tags-same k hk ∙ j .free-blank c t k hk;
@@ -57,9 +60,9 @@ same-inside z p-pos plain s d e j chip ready still = record {
 
 pub requeued : (z : Sizes) (plain : List ℕ) (s : State) (d : Device) → Inside z plain s d → (reads writes : List Entry) (gc : List ℕ) → Ready z plain gc d
     → ((c : ℕ) → times c (caches reads) + times c (caches writes) + times c gc ≡ times c (caches (s .reads)) + times c (caches (s .writes)) + times c (s .gc))
-    → Reads z d reads → Writes z d writes → length reads ≤ z .r → length writes ≤ z .w → Inside z plain (moved s reads writes gc (s .free)) d
+    → Reads z d reads → Writes z d writes → Marks z plain d reads writes → length reads ≤ z .r → length writes ≤ z .w → Inside z plain (moved s reads writes gc (s .free)) d
 unfolding moved
-requeued z plain s d j reads writes gc ready same r w few-reads few-writes = record {
+requeued z plain s d j reads writes gc ready same r w m few-reads few-writes = record {
   sizes-are = j .sizes-are;
   plain-length = j .plain-length;
   chip = j .chip;
@@ -67,6 +70,7 @@ requeued z plain s d j reads writes gc ready same r w few-reads few-writes = rec
   once = λ c. ap (λ (n : ℕ). n + times c (s .free)) (same c) ∙ j .once c;
   reads = r;
   writes = w;
+  marks = m;
   few-reads = few-reads;
   few-writes = few-writes;
   free-blank = j .free-blank;
@@ -143,7 +147,7 @@ module _ (z : Sizes) (p-pos : 1 ≤ z .p) (plain : List ℕ) (s : State) (d : De
         (rw (cachesOf-one (s .writes) b w m) (joined z plain (s .gc) d w (j .ready)
         (safe-erased z p-pos swept L w w-in plain b (backOf-same z p-pos d swept w (write-same z plain s d j b w m) ∙ j .writes .logs b w m .1) (swept-safe z plain s d j) (own st))))
         (λ c. omega (arith, times-without (s .writes) b (j .writes .write-once) c, times-append c (s .gc) (cachesOf b (s .writes))))
-        (j .reads) (writes-without z d (s .writes) b (j .writes)) (j .few-reads) (omega (arith, length-without (s .writes) b, j .few-writes))
+        (j .reads) (writes-without z d (s .writes) b (j .writes)) (marks-fewer z plain d (s .reads) (s .writes) (without b (s .writes)) (λ b' h. marked-without (s .writes) b b' h) (j .marks)) (j .few-reads) (omega (arith, length-without (s .writes) b, j .few-writes))
 
   -- ---- a read bucket
 
@@ -161,9 +165,13 @@ module _ (z : Sizes) (p-pos : 1 ≤ z .p) (plain : List ℕ) (s : State) (d : De
         (λ c h. rw (sym (who-holds z plain s d j p-pos c b h .is) ∙ m .is) (le-of-eq (sym (times-self r)))) lay
 
     pub read-dropped : ((i : ℕ) → Lay (view z (gone z d (s .gc))) b (view z (gone z d (s .gc)) .disk b) i (plainAt z plain b i))
-        → Inside z plain (moved s (without b (s .reads)) (s .writes) (s .gc ++ cachesOf b (s .reads)) (s .free)) d
-    read-dropped lay = requeued z plain s d j (without b (s .reads)) (s .writes) (s .gc ++ cachesOf b (s .reads))
+        → Inside z plain (moved s (without b (s .reads)) (map (remarked b false) (s .writes)) (s .gc ++ cachesOf b (s .reads)) (s .free)) d
+    read-dropped lay = requeued z plain s d j (without b (s .reads)) (map (remarked b false) (s .writes)) (s .gc ++ cachesOf b (s .reads))
         (rw (cachesOf-one (s .reads) b r m) (joined z plain (s .gc) d r (j .ready)
         (safe-erased z p-pos swept L r (on-chip z r (r-parts .0)) plain b (backOf-same z p-pos d swept r r-same ∙ r-parts .2) (swept-safe z plain s d j) (own-copies lay))))
-        (λ c. omega (arith, times-without (s .reads) b (j .reads .read-once) c, times-append c (s .gc) (cachesOf b (s .reads))))
-        (reads-without z d (s .reads) b (j .reads)) (j .writes) (omega (arith, length-without (s .reads) b, j .few-reads)) (j .few-writes)
+        (λ c. omega (arith, times-without (s .reads) b (j .reads .read-once) c, times-append c (s .gc) (cachesOf b (s .reads)), ap (times c) (caches-map (remarked b false) (keeps-remarked b false) (s .writes))))
+        (reads-without z d (s .reads) b (j .reads)) (writes-remarked z d (s .writes) b false (j .writes))
+        (marks-kept z plain p-pos d d (s .reads) (without b (s .reads)) (map (remarked b false) (s .writes))
+        (λ b' c h q. (without-maps (s .reads) b b' c (λ u. marked-cleared b (s .writes) b' h .0 (sym u)) q, same-refl z d c))
+        (marks-fewer z plain d (s .reads) (s .writes) (map (remarked b false) (s .writes)) (λ b' h. marked-cleared b (s .writes) b' h .1) (j .marks)))
+        (omega (arith, length-without (s .reads) b, j .few-reads)) (rw (length-map (s .writes) (remarked b false)) (j .few-writes))

@@ -15,7 +15,7 @@ use Rattle.model.specs.Sizes.{Device, bucketSize, body}
 use Rattle.model.specs.Stores.{erase, apply, applyAll, bucketBytes}
 use Rattle.model.specs.Spare.{readKind, dirtyKind}
 use Rattle.model.specs.Image.{isDirty}
-use Rattle.model.specs.State.{State, moved, entry, holds, without}
+use Rattle.model.specs.State.{State, moved, entry, holds, isMarked, without}
 use Rattle.model.specs.Steps.{_then_, makeRoom, taken, takeCopy, logStores, fillCopy, copy}
 use Rattle.model.proofs.Views.{Lay, SafeAt, copied, uncopied, lay-disk}
 use Rattle.model.proofs.Limits.{Limits}
@@ -59,7 +59,7 @@ module _ (z : Sizes) (B : Limits z) (plain : List ℕ) (b k : ℕ) (hb : b < z .
   -- ---- with a free head
 
   module _ (s : State) (d : Device) (j : Inside z plain s d) (has-free : empty (s .free) ≡ false) (next-room : s .next < 4294967296)
-      (read-case : k ≡ readKind → holds b (s .reads) ≡ false) where
+      (read-case : k ≡ readKind → holds b (s .reads) ≡ false) (unmarked : isMarked b (s .writes) ≡ false) where
     c-free : 1 ≤ times (head (s .free)) (s .free)
     c-free = omega (arith, times-rest (head (s .free)) (s .free) has-free, times-self (head (s .free)))
 
@@ -92,7 +92,7 @@ module _ (z : Sizes) (B : Limits z) (plain : List ℕ) (b k : ℕ) (hb : b < z .
         (j .free-blank (head (s .free)) c-free) (j .next-above) copyable
 
     pub program-good : (holds b (s .reads) ≡ true) ⊎ (length (s .reads) < z .r) → Good z plain (record { stores = logStores z (head (s .free)) 0 k (s .next) b 0 bytes; state = takeCopy b s }) d
-    program-good fewer = (program-along, copied-inside z (B .p-low) plain s d _ j b k has-free program-done next-room fewer)
+    program-good fewer = (program-along, copied-inside z (B .p-low) plain s d _ j b k has-free program-done unmarked next-room fewer)
 
     pub program-fresh : Fresh z plain k b s (takeCopy b s) (applyAll z d (logStores z (head (s .free)) 0 k (s .next) b 0 bytes))
     unfolding takeCopy taken moved entry
@@ -107,7 +107,8 @@ module _ (z : Sizes) (B : Limits z) (plain : List ℕ) (b k : ℕ) (hb : b < z .
 
   -- ---- the whole step
 
-  module _ (s : State) (d : Device) (j : Inside z plain s d) (next-room : s .next < 4294967296) (read-case : k ≡ readKind → holds b (s .reads) ≡ false) where
+  module _ (s : State) (d : Device) (j : Inside z plain s d) (next-room : s .next < 4294967296) (read-case : k ≡ readKind → holds b (s .reads) ≡ false)
+      (unmarked : isMarked b (s .writes) ≡ false) where
     abbrev t : State
     t = makeRoom z s d .state
 
@@ -126,16 +127,19 @@ module _ (z : Sizes) (B : Limits z) (plain : List ℕ) (b k : ℕ) (hb : b < z .
     case-there : k ≡ readKind → holds b (makeRoom z s d .state .reads) ≡ false
     case-there q = rw (roomy .reads-same) (read-case q)
 
+    unmarked-there : isMarked b (makeRoom z s d .state .writes) ≡ false
+    unmarked-there = rw (roomy .writes-same) unmarked
+
     pub copy-good : (holds b (s .reads) ≡ true) ⊎ (length (s .reads) < z .r) → Good z plain (copy z k b bytes s d) d
     unfolding copy fillCopy
     copy-good fewer = then-good z plain (makeRoom z) (fillCopy z k b bytes) s d (j .sizes-are) room
-        (program-good t e (room .1) (roomy .has-free) next-there case-there
+        (program-good t e (room .1) (roomy .has-free) next-there case-there unmarked-there
         (subst (λ (l : List Entry). (holds b l ≡ true) ⊎ (length l < z .r)) (sym (roomy .reads-same)) fewer))
 
     pub copy-fresh : Fresh z plain k b s (copy z k b bytes s d .state) (applyAll z d (copy z k b bytes s d .stores))
     unfolding copy fillCopy _then_
     copy-fresh =
-        let f = program-fresh t e (room .1) (roomy .has-free) next-there case-there in
+        let f = program-fresh t e (room .1) (roomy .has-free) next-there case-there unmarked-there in
         subst (λ (x : Device). Fresh z plain k b s (takeCopy b t) x) (sym (applyAll-append z d (makeRoom z s d .stores) (logStores z (head (t .free)) 0 k (t .next) b 0 bytes)))
         (record {
           cache = f .cache;

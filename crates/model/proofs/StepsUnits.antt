@@ -1,11 +1,12 @@
 -- Steps that write a back-end bucket's units, and the read queue's moves without a copy: the least recent bucket leaves, a bucket is made most recent.
 use Prim.Native.Nat.{ℕ, _≤_, _<_}
-use mathlib.Core.Path.{_≡_, refl, sym, ap, _∙_}
+use mathlib.Core.Path.{_≡_, refl, sym, ap, _∙_, subst}
 use mathlib.Core.Logic.{_⊎_, inl, inr}
 use mathlib.Core.Bool.{true, false}
-use mathlib.Core.List.{List, [], _∷_, _++_}
+use mathlib.Core.List.{List, [], _∷_, _++_, map}
 use native.Mathlib.Omega.{arith}
-use lib.ListN.{length, drop, getD, length-append}
+use native.Mathlib.Decide.{ℕ-discrete}
+use lib.ListN.{length, drop, getD, length-append, length-map}
 use lib.Dec.{ltb}
 use borrow.Author.Tests.{ltb-false}
 use Rattle.lists.specs.Lists.{if_then_else_, times, distinct}
@@ -15,22 +16,23 @@ use Rattle.model.specs.declared.Entry.{Entry}
 use Rattle.model.specs.Sizes.{Device, bucketSize}
 use Rattle.model.specs.Stores.{applyAll, bucketBytes, diskBytes, unitStores}
 use Rattle.model.specs.Image.{isDirty}
-use Rattle.model.specs.State.{State, moved, entry, cachesOf, without, backs}
-use Rattle.model.specs.Operations.{touch, dropOldest, withoutOldest}
+use Rattle.model.specs.State.{State, moved, entry, cachesOf, without, backs, holds, cacheOf, isMarked, remarked}
+use Rattle.model.specs.Operations.{touch, dropOldest, withoutOldest, setMark}
 use Rattle.model.proofs.Views.{Lay, SafeAt, copied, uncopied, lay-base}
 use Rattle.model.proofs.Limits.{Limits, on-chip}
-use Rattle.model.proofs.Safe.{view, holdsOf, plainAt, Safe, Sound, Along}
+use Rattle.model.proofs.Safe.{view, holdsOf, plainAt, Safe, Sound, Along, Absorbed}
 use Rattle.model.proofs.Frames.{length-bucket}
-use Rattle.model.proofs.Show.{isDirty-same}
+use Rattle.model.proofs.Show.{isDirty-same, same-refl}
 use Rattle.model.proofs.Units.{Allowed, dirty-copy, Written, units-along, units-written}
 use Rattle.model.proofs.Buckets.{holds-parts}
-use Rattle.model.proofs.Queues.{Maps, maps-here, absent-without, without-here, without-absent, cachesOf-one, distinct-rest, times-without, length-without, maps-times}
-use Rattle.model.proofs.QueuesGrown.{times-grown}
+use Rattle.model.proofs.Queues.{Maps, maps-here, absent-without, without-here, without-absent, cachesOf-one, distinct-rest, times-without, length-without, maps-times, without-maps}
+use Rattle.model.proofs.QueuesGrown.{times-grown, maps-older, maps-newest, caches-map, holds-map}
 use Rattle.model.proofs.QueuesShown.{reads-without, reads-grown}
 use Rattle.model.proofs.QueuesErased.{gone, gone-disk}
 use Rattle.model.proofs.Inside.{Inside, lens, sound, one-place, gc-below, swept-safe, read-same, read-back, who-holds}
 use Rattle.model.proofs.Steps.{Good, nothing-good}
 use Rattle.model.proofs.StepsDrop.{same-inside, requeued, read-dropped}
+use Rattle.model.proofs.Marks.{keeps-remarked, marked-held, remarked-other, writes-remarked, marks-kept}
 
 -- the first entry of a queue
 pub record Oldest (l : List Entry) (o : Entry) : Type 0 where
@@ -76,7 +78,7 @@ module _ (z : Sizes) (B : Limits z) (plain : List ℕ) (s : State) (d : Device) 
           (gone-disk z (s .gc) (gc-below z plain s d j) d (lens z plain s d j) b ∙ (q ∙ (sym (read-same z plain s d j b r m .bytes-same) ∙ ap (bucketBytes z (gone z d (s .gc))) (sym is-r))))))
 
   pub read-leaves : (b r : ℕ) → Maps (s .reads) b r → (isDirty z d r ≡ false) ⊎ (diskBytes z d b ≡ bucketBytes z d r)
-      → Inside z plain (moved s (without b (s .reads)) (s .writes) (s .gc ++ cachesOf b (s .reads)) (s .free)) d
+      → Inside z plain (moved s (without b (s .reads)) (map (remarked b false) (s .writes)) (s .gc ++ cachesOf b (s .reads)) (s .free)) d
   unfolding Safe
   read-leaves b r m o = read-dropped z (B .p-low) plain s d j b r m (lay-disk b r m o (swept-safe z plain s d j b))
 
@@ -84,7 +86,7 @@ module _ (z : Sizes) (B : Limits z) (plain : List ℕ) (s : State) (d : Device) 
   -- "Dirty: write its P units first"
   left-good : (b r : ℕ) → Maps (s .reads) b r → Good z plain (record {
     stores = if isDirty z d r then unitStores z b (bucketBytes z d r) else [];
-    state = moved s (without b (s .reads)) (s .writes) (s .gc ++ cachesOf b (s .reads)) (s .free);
+    state = moved s (without b (s .reads)) (map (remarked b false) (s .writes)) (s .gc ++ cachesOf b (s .reads)) (s .free);
   }) d
   unfolding applyAll
   left-good b r m = go (true-or-false (isDirty z d r))
@@ -100,7 +102,7 @@ module _ (z : Sizes) (B : Limits z) (plain : List ℕ) (s : State) (d : Device) 
 
       go : (isDirty z d r ≡ true) ⊎ (isDirty z d r ≡ false) → Good z plain (record {
         stores = if isDirty z d r then unitStores z b (bucketBytes z d r) else [];
-        state = moved s (without b (s .reads)) (s .writes) (s .gc ++ cachesOf b (s .reads)) (s .free);
+        state = moved s (without b (s .reads)) (map (remarked b false) (s .writes)) (s .gc ++ cachesOf b (s .reads)) (s .free);
       }) d
       go (inr q) = rw q (sound z plain s d j, read-leaves z B plain s d j b r m (inl q))
       go (inl q) =
@@ -131,5 +133,27 @@ module _ (z : Sizes) (B : Limits z) (plain : List ℕ) (s : State) (d : Device) 
       (λ c. omega (arith, times-grown (entry b r 0) (without b (s .reads)) c, times-without (s .reads) b (j .reads .read-once) c, ap (times c) (cachesOf-one (s .reads) b r m)))
       (reads-grown z d (without b (s .reads)) (entry b r 0) (absent-without (s .reads) b) (j .reads .copies b r m) (j .reads .newest-copy b r m) (reads-without z d (s .reads) b (j .reads)))
       (j .writes)
+      (marks-kept z plain (B .p-low) d d (s .reads) (without b (s .reads) ++ (entry b r 0 ∷ [])) (s .writes) (λ b' c h q. (again b' c q (ℕ-discrete b b'), same-refl z d c)) (j .marks))
       (rw (length-append (without b (s .reads)) (entry b r 0 ∷ [])) (omega (arith, length-without (s .reads) b, ap length (cachesOf-one (s .reads) b r m), j .few-reads)))
       (j .few-writes))
+    where
+      again : (b' c : ℕ) → Maps (s .reads) b' c → Dec (b ≡ b') → Maps (without b (s .reads) ++ (entry b r 0 ∷ [])) b' c
+      again b' c q (no ne) = maps-older (entry b r 0) (without b (s .reads)) b' c (without-maps (s .reads) b b' c ne q)
+      again b' c q (yes e) =
+          subst (λ (y : ℕ). Maps (without b (s .reads) ++ (entry b r 0 ∷ [])) y c) e
+          (subst (λ (y : ℕ). Maps (without b (s .reads) ++ (entry b r 0 ∷ [])) b y) (sym (m .is) ∙ (ap (λ (y : ℕ). cacheOf y (s .reads)) e ∙ q .is)) (maps-newest (entry b r 0) (without b (s .reads)) (absent-without (s .reads) b)))
+
+  -- ---- a mark set
+
+  pub mark-inside : (b : ℕ) → (holds b (s .writes) ≡ true → Absorbed z plain d (s .reads) b) → Inside z plain (setMark b s) d
+  unfolding setMark
+  mark-inside b own = requeued z plain s d j (s .reads) (map (remarked b true) (s .writes)) (s .gc) (j .ready)
+      (λ c. omega (arith, ap (times c) (caches-map (remarked b true) (keeps-remarked b true) (s .writes))))
+      (j .reads) (writes-remarked z d (s .writes) b true (j .writes)) marks (j .few-reads) (rw (length-map (s .writes) (remarked b true)) (j .few-writes))
+    where
+      marks : (b' : ℕ) → isMarked b' (map (remarked b true) (s .writes)) ≡ true → Absorbed z plain d (s .reads) b'
+      marks b' h = go (ℕ-discrete b' b)
+        where
+          go : Dec (b' ≡ b) → Absorbed z plain d (s .reads) b'
+          go (no ne) = j .marks b' (remarked-other b true (s .writes) b' ne h)
+          go (yes q) = rw q (own (sym (holds-map (remarked b true) (keeps-remarked b true) (s .writes) b) ∙ marked-held (map (remarked b true) (s .writes)) b (rw q at h)))

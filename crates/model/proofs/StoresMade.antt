@@ -9,7 +9,7 @@ use native.Mathlib.Nat.{le-of-eq}
 use lib.ListN.{length, getD, length-append}
 use lib.Dec.{leb, ltb, eqb}
 use borrow.Author.Tests.{ltb-true, eqb-true, leb-true}
-use Rattle.lists.specs.Lists.{head, empty}
+use Rattle.lists.specs.Lists.{head, empty, if_then_else_}
 use Rattle.lists.proofs.Tests.{true-or-false}
 use Rattle.lists.proofs.Rows.{length-row}
 use Rattle.model.specs.declared.Sizes.{Sizes}
@@ -17,9 +17,9 @@ use Rattle.model.specs.Sizes.{Device, pagesFor}
 use Rattle.model.specs.Stores.{applyAll, bucketBytes, unitStore, unitStores}
 use Rattle.model.specs.Spare.{readKind, writeKind, dirtyKind}
 use Rattle.model.specs.Image.{epochOf, isDirty, blanks}
-use Rattle.model.specs.State.{State, entry, holds, cacheOf}
+use Rattle.model.specs.State.{State, entry, holds, cacheOf, isMarked}
 use Rattle.model.specs.Steps.{Step, nothing, _then_, move, eraseStep, makeRoom, dropWrite, logStore, logStores, merged, fillCopy, copy, writeOut, evict, freed}
-use Rattle.model.specs.Operations.{lastEpoch, victim, fits, makeWay, appendLog, startLog, write, dropOldest, read, outgoing, evictAny, withoutOldest}
+use Rattle.model.specs.Operations.{lastEpoch, victim, fits, makeWay, appendLog, startLog, write, dropOldest, read, outgoing, evictAny, withoutOldest, isCurrent, setMark, makePlace, readCopy}
 use Rattle.model.specs.Calls.{Call, readCall, writeCall, refusal, planOf, carryOut, turnedDown, call}
 use Rattle.model.specs.StoresMade.{FewStores}
 use Rattle.model.proofs.Limits.{Limits, pages-whole, pages-fit}
@@ -90,33 +90,44 @@ module _ (s : State) (d : Device) (pass : Passed s d) where
       go (inr f) (inl q) = rw (f, q) (omega (arith, length-units z (getD (s .reads) 0 (entry 0 0 0) .back) (bucketBytes z d (getD (s .reads) 0 (entry 0 0 0) .cache))))
       go (inr f) (inr q) = rw (f, q) (omega arith)
 
+  place-most : (b : ℕ) → length (makePlace (s .sizes) b s d .stores) ≤ s .sizes .p
+  unfolding makePlace nothing
+  place-most b = go (true-or-false (holds b (s .reads)))
+    where
+      go : (holds b (s .reads) ≡ true) ⊎ (holds b (s .reads) ≡ false) → length (makePlace z b s d .stores) ≤ z .p
+      go (inl r) = rw r (omega arith)
+      go (inr r) = rw r oldest-most
+
+  copy-read-most : (b : ℕ) → b < s .sizes .b → length (readCopy (s .sizes) b (merged (s .sizes) s d b) s d .stores) ≤ 2 * s .sizes .p + 1
+  unfolding readCopy move nothing
+  copy-read-most b hb =
+      let k = if holds b (s .writes) then dirtyKind else readKind in
+      let bytes = merged z s d b in
+      then-most (makePlace z b) (copy z k b bytes then move (setMark b)) s d (z .p) (z .p + 1) _ (place-most b)
+      (λ t e. then-most (copy z k b bytes) (move (setMark b)) t e (z .p + 1) 0 _ (copy-most k b hb t e) (λ t e. omega arith) (omega arith)) (omega arith)
+
   read-most : (b : ℕ) → b < s .sizes .b → length (read (s .sizes) b s d .stores) ≤ 2 * s .sizes .p + 1
   unfolding read nothing move
-  read-most b hb = go (true-or-false (ltb lastEpoch (s .next))) (true-or-false (holds b (s .reads))) (true-or-false (holds b (s .writes)))
+  read-most b hb = go (true-or-false (ltb lastEpoch (s .next))) (true-or-false (isCurrent b s))
     where
-      copied : (k : ℕ) → length ((dropOldest z then copy z k b (merged z s d b)) s d .stores) ≤ 2 * z .p + 1
-      copied k = then-most (dropOldest z) (copy z k b (merged z s d b)) s d (z .p) (z .p + 1) _ oldest-most (copy-most k b hb) (omega arith)
-
-      go : (ltb lastEpoch (s .next) ≡ true) ⊎ (ltb lastEpoch (s .next) ≡ false) → (holds b (s .reads) ≡ true) ⊎ (holds b (s .reads) ≡ false)
-          → (holds b (s .writes) ≡ true) ⊎ (holds b (s .writes) ≡ false) → length (read z b s d .stores) ≤ 2 * z .p + 1
-      go (inl e) r w = rw e (omega arith)
-      go (inr e) (inl r) (inl w) = rw (e, r, w) (omega (arith, copy-most dirtyKind b hb s d))
-      go (inr e) (inl r) (inr w) = rw (e, r, w) (omega arith)
-      go (inr e) (inr r) (inl w) = rw (e, r, w) (copied dirtyKind)
-      go (inr e) (inr r) (inr w) = rw (e, r, w) (copied readKind)
+      go : (ltb lastEpoch (s .next) ≡ true) ⊎ (ltb lastEpoch (s .next) ≡ false) → (isCurrent b s ≡ true) ⊎ (isCurrent b s ≡ false) → length (read z b s d .stores) ≤ 2 * z .p + 1
+      go (inl e) c = rw e (omega arith)
+      go (inr e) (inl c) = rw (e, c) (omega arith)
+      go (inr e) (inr c) = rw (e, c) (copy-read-most b hb)
 
   -- ---- a write
 
   evict-most : (b : ℕ) → holds b (s .writes) ≡ true → length (evict (s .sizes) b s d .stores) ≤ s .sizes .p + 1
   unfolding evict move nothing writeOut
-  evict-most b h = go (true-or-false (holds b (s .reads)))
+  evict-most b h = go (true-or-false (isMarked b (s .writes))) (true-or-false (holds b (s .reads)))
     where
       hb : b < z .b
       hb = write-back s d pass b (cacheOf b (s .writes)) (record { held = h; is = refl })
 
-      go : (holds b (s .reads) ≡ true) ⊎ (holds b (s .reads) ≡ false) → length (evict z b s d .stores) ≤ z .p + 1
-      go (inl r) = rw r (then-most (copy z dirtyKind b (merged z s d b)) (move (dropWrite b)) s d (z .p + 1) 0 _ (copy-most dirtyKind b hb s d) (λ t e. omega arith) (omega arith))
-      go (inr r) = rw r (then-most (writeOut z b (merged z s d b)) (move (dropWrite b)) s d (z .p) 0 _ (le-of-eq (length-units z b (merged z s d b))) (λ t e. omega arith) (omega arith))
+      go : (isMarked b (s .writes) ≡ true) ⊎ (isMarked b (s .writes) ≡ false) → (holds b (s .reads) ≡ true) ⊎ (holds b (s .reads) ≡ false) → length (evict z b s d .stores) ≤ z .p + 1
+      go (inl m) r = rw m (then-most nothing (move (dropWrite b)) s d 0 0 _ (omega arith) (λ t e. omega arith) (omega arith))
+      go (inr m) (inl r) = rw (m, r) (then-most (copy z dirtyKind b (merged z s d b)) (move (dropWrite b)) s d (z .p + 1) 0 _ (copy-most dirtyKind b hb s d) (λ t e. omega arith) (omega arith))
+      go (inr m) (inr r) = rw (m, r) (then-most (writeOut z b (merged z s d b)) (move (dropWrite b)) s d (z .p) 0 _ (le-of-eq (length-units z b (merged z s d b))) (λ t e. omega arith) (omega arith))
 
   way-most : (b : ℕ) → length (makeWay (s .sizes) b s d .stores) ≤ s .sizes .p + 1
   unfolding makeWay outgoing evictAny nothing

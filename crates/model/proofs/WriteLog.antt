@@ -4,27 +4,28 @@ use mathlib.Core.Path.{_≡_, refl, sym, ap, _∙_, subst}
 use mathlib.Core.Logic.{_⊎_, inl, inr, _≢_}
 use mathlib.Core.Bool.{true, false, true≢false}
 use mathlib.Core.Option.{none}
-use mathlib.Core.List.{List, [], _∷_, _++_}
+use mathlib.Core.List.{List, [], _∷_, _++_, map}
 use native.Mathlib.Omega.{arith}
 use native.Mathlib.Decide.{ℕ-discrete, decLt}
-use lib.ListN.{length, drop, length-append}
+use lib.ListN.{length, drop, length-append, getD, length-map}
 use borrow.Author.Tests.{le-leb}
 use Rattle.lists.specs.Lists.{head, empty, times, splice, ff}
 use Rattle.lists.proofs.Parts.{length-splice}
 use Rattle.lists.proofs.Counts.{times-self, times-rest}
 use Rattle.model.specs.declared.Sizes.{Sizes}
+use Rattle.model.specs.declared.Entry.{Entry}
 use Rattle.model.specs.Sizes.{Device, bucketSize, pagesFor, body}
 use Rattle.model.specs.Stores.{tagOf}
 use Rattle.model.specs.Spare.{writeKind}
 use Rattle.model.specs.Image.{epochOf, backOf, isWrite, blanks}
-use Rattle.model.specs.State.{State, moved, entry, holds, cacheOf, caches}
+use Rattle.model.specs.State.{State, moved, entry, holds, cacheOf, caches, isMarked, remarked}
 use Rattle.model.specs.Steps.{taken}
 use Rattle.model.specs.Operations.{takeWrite, appendLog, startLog}
 use Rattle.model.specs.Promise.{diskPlace}
 use Rattle.model.proofs.Limits.{Limits, pages-fit}
-use Rattle.model.proofs.Safe.{givesOf}
+use Rattle.model.proofs.Safe.{givesOf, Marks}
 use Rattle.model.proofs.Frames.{row-fits}
-use Rattle.model.proofs.Show.{Same, epochOf-same, backOf-same, isWrite-same, gives-same}
+use Rattle.model.proofs.Show.{Same, epochOf-same, backOf-same, isWrite-same, gives-same, isDirty-same}
 use Rattle.model.proofs.Formed.{blank-end, epoch-some}
 use Rattle.model.proofs.FormedKept.{chip-formed, chip-epoch}
 use Rattle.model.proofs.Pages.{Log}
@@ -32,11 +33,13 @@ use Rattle.model.proofs.Log.{Place, fresh, behind-last, Logged, log-cut
 use Rattle.model.proofs.Buckets.{blanks-most, gives-beyond}
 use Rattle.model.proofs.BucketKinds.{write-used}
 use Rattle.model.proofs.Queues.{Maps, maps-times}
-use Rattle.model.proofs.QueuesGrown.{times-grown}
+use Rattle.model.proofs.QueuesGrown.{times-grown, caches-map}
 use Rattle.model.proofs.QueuesShown.{priorityFits, Reads, Writes, reads-kept, writes-kept, writes-grown}
 use Rattle.model.proofs.Inside.{Inside, in-chip, one-place, gc-below}
 use Rattle.model.proofs.Calling.{Range}
-use Rattle.model.proofs.WriteAccept.{Moves, accept-inside}
+use Rattle.model.proofs.WriteAccept.{Moves, accept-inside, accept-cleared}
+use Rattle.model.proofs.Plain.{plain-others}
+use Rattle.model.proofs.Marks.{keeps-remarked, marked-held, marked-grown, marked-cleared, writes-remarked}
 
 module _ (z : Sizes) (B : Limits z) (plain : List ℕ) (s : State) (d : Device) (j : Inside z plain s d) (b off : ℕ) (bytes : List ℕ) (range : Range z b off (length bytes)) where
   abbrev after : List ℕ
@@ -56,6 +59,19 @@ module _ (z : Sizes) (B : Limits z) (plain : List ℕ) (s : State) (d : Device) 
     reads-logged : Reads z f (s .reads)
     reads-logged = reads-kept z (B .p-low) d f (s .reads) (λ b' x m. run .still x (not-c x (maps-times (s .reads) b' x m)))
         (λ b' x h q. run .still x (λ eq. true≢false (sym q ∙ rw eq (run .no-copy b')))) (j .reads)
+
+    -- other records' marks: their plain bytes stay
+    marks-logged : (l : List Entry) → ((b' : ℕ) → isMarked b' l ≡ true → (b' ≢ b) × (isMarked b' (s .writes) ≡ true)) → Marks z (splice plain (diskPlace z b off) bytes) f (s .reads) l
+    marks-logged l other b' h =
+        let o = other b' h in
+        let a = j .marks b' (o .1) in
+        let still = run .still (a .cache) (not-c (a .cache) (maps-times (s .reads) b' (a .cache) (a .maps))) in
+        record {
+          cache = a .cache;
+          maps = a .maps;
+          dirty = isDirty-same z (B .p-low) d f (a .cache) still ∙ a .dirty;
+          content = λ i. ap (λ (x : List ℕ). getD x i 0) (still .bytes-same) ∙ (a .content i ∙ sym (plain-others z plain b off bytes (range .range-in) room b' i (o .0)));
+        }
 
   -- ---- behind the pages of b's Write bucket
 
@@ -97,17 +113,20 @@ module _ (z : Sizes) (B : Limits z) (plain : List ℕ) (s : State) (d : Device) 
           newest b' x mx y i (yes p) (yes r) (inl n) ne = absurd (ne (r ∙ sym p))
           newest b' x mx y i (no p) (yes r) (inl n) ne = inl (rw r (run .alone b' i (λ eq. p (sym (mx .is) ∙ (ap (λ (v : ℕ). cacheOf v (s .writes)) eq ∙ m .is)))))
 
-      appended-inside : Inside z (splice plain (diskPlace z b off) bytes) s f
+      -- its mark, if it had one, is gone
+      appended-inside : Inside z (splice plain (diskPlace z b off) bytes) (moved s (s .reads) (map (remarked b false) (s .writes)) (s .gc) (s .free)) f
+      unfolding moved
       appended-inside = record {
         sizes-are = j .sizes-are;
         plain-length = after-length;
         chip = run .chip;
         ready = run .ready;
-        once = j .once;
+        once = λ x. ap (λ (l : List ℕ). times x (caches (s .reads)) + times x l + times x (s .gc) + times x (s .free)) (caches-map (remarked b false) (keeps-remarked b false) (s .writes)) ∙ j .once x;
+        marks = marks-logged w (epochOf z d w) f run (λ x h. not-w x (omega arith)) (map (remarked b false) (s .writes)) (λ b' h. marked-cleared b (s .writes) b' h);
         reads = reads-logged w (epochOf z d w) f run (λ x h. not-w x (omega arith));
-        writes = writes-appended;
+        writes = writes-remarked z f (s .writes) b false writes-appended;
         few-reads = j .few-reads;
-        few-writes = j .few-writes;
+        few-writes = rw (length-map (s .writes) (remarked b false)) (j .few-writes);
         free-blank = λ x t k hk. run .still x (not-w x (omega arith)) .tags-same k hk ∙ j .free-blank x t k hk;
         accepted-low = j .accepted-low;
         next-above = λ x hx. above x hx (ℕ-discrete x w);
@@ -153,7 +172,7 @@ module _ (z : Sizes) (B : Limits z) (plain : List ℕ) (s : State) (d : Device) 
       let done = log-done z B w first e b off bytes (append-log w m fit) d (j .chip) (append-place w m) plain room (s .gc) (gc-not-w w m) (rest-blank w m) (j .writes .newest-logs b w m) (j .ready) in
       record {
         cuts = log-cuts z B w first e b off bytes (append-log w m fit) d (j .chip) (append-place w m) plain room (s .gc) (gc-not-w w m) (rest-blank w m) (j .writes .newest-logs b w m) (j .ready);
-        whole = accept-inside z after b (blanks z d w - pagesFor z (length bytes)) (omega (arith, blanks-most z d w)) s _ (appended-inside w m _ done);
+        whole = rw (← accept-cleared b (blanks z d w - pagesFor z (length bytes)) s) (accept-inside z after b (blanks z d w - pagesFor z (length bytes)) (omega (arith, blanks-most z d w)) _ _ (appended-inside w m _ done));
       }
 
   -- ---- in a bucket just taken
@@ -221,6 +240,8 @@ module _ (z : Sizes) (B : Limits z) (plain : List ℕ) (s : State) (d : Device) 
         once = λ x. omega (arith, count x, times-grown (entry b c 0) (s .writes) x) ∙ j .once x;
         reads = reads-logged c (s .next) f run (λ x h. not-c x (omega arith));
         writes = writes-started;
+        marks = marks-logged c (s .next) f run (λ x h. not-c x (omega arith)) (s .writes ++ (entry b c 0 ∷ []))
+            (λ b' h. let q = marked-grown (s .writes) (entry b c 0) refl b' h in ((λ u. true≢false (sym (marked-held (s .writes) b' q) ∙ (ap (λ (y : ℕ). holds y (s .writes)) u ∙ absent-yet))), q));
         few-reads = j .few-reads;
         few-writes = rw (length-append (s .writes) (entry b c 0 ∷ [])) (omega (arith, fewer));
         free-blank = λ x t k hk. run .still x (not-c x (omega arith)) .tags-same k hk ∙ j .free-blank x (omega (arith, count x)) k hk;

@@ -10,17 +10,17 @@ use Rattle.lists.specs.Lists.{if_then_else_, empty, all}
 use Rattle.model.specs.declared.Victim.{Victim}
 use Rattle.model.specs.declared.Victim.the-variants.{Nobody, Bucket}
 use Rattle.model.specs.Sizes.{Device, pagesFor}
-use Rattle.model.specs.State.{State, holds}
+use Rattle.model.specs.State.{State, holds, isMarked}
 use Rattle.model.specs.Steps.{Plan, Step, nothing, _then_, makeRoom}
-use Rattle.model.specs.Operations.{lastEpoch, fits, outgoing, makeWay, dropOldest}
+use Rattle.model.specs.Operations.{lastEpoch, fits, outgoing, makeWay, isCurrent, makePlace}
 use Rattle.model.specs.Calls.{readCall, writeCall, refusal, planOf}
 
 -- ---- where a plan allocates: the steps from its start that an allocation follows
 
--- an eviction: for its copy, if there is a read bucket
+-- an eviction: for its copy, if there is a read bucket and not all logs are in it
 unfoldable pub evictAllocations : Victim → State → List Step
 evictAllocations Nobody s = []
-evictAllocations (Bucket v) s = if holds v (s .reads) then nothing ∷ [] else []
+evictAllocations (Bucket v) s = if isMarked v (s .writes) then [] else (if holds v (s .reads) then nothing ∷ [] else [])
 
 -- a write: for its eviction, and behind that for its log, if the queued Write bucket has no room for it
 unfoldable pub writeAllocations : (b n : ℕ) → State → Device → List Step
@@ -28,13 +28,11 @@ writeAllocations b n s d =
     if fits (s .sizes) d b (pagesFor (s .sizes) n) s then []
     else evictAllocations (outgoing (s .sizes) d b s) s ++ (makeWay (s .sizes) b ∷ [])
 
--- a read: for its copy, at once where both hit, and on a read miss once the least recent bucket has given way
+-- a read: for its copy, once there is a place for it in the read queue
 unfoldable pub readAllocations : ℕ → State → Device → List Step
 readAllocations b s d =
     if ltb lastEpoch (s .next) then []
-    else (if holds b (s .reads)
-    then (if holds b (s .writes) then nothing ∷ [] else [])
-    else dropOldest (s .sizes) ∷ [])
+    else (if isCurrent b s then [] else makePlace (s .sizes) b ∷ [])
 
 -- ---- the claim
 

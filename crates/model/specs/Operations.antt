@@ -1,6 +1,6 @@
 -- Write, read, drain and format: each a step, or a plan from nothing.
 use Prim.Native.Nat.{ℕ, _+_, _-_, _/_}
-use mathlib.Core.Bool.{Bool, not, _&&_, _||_}
+use mathlib.Core.Bool.{Bool, true, false, not, _&&_, _||_}
 use mathlib.Core.List.{List, [], _∷_, _++_, map}
 use lib.ListN.{length, drop, getD}
 use lib.Dec.{leb, ltb, eqb}
@@ -13,7 +13,7 @@ use Rattle.model.specs.Sizes.{Device, body, pagesFor}
 use Rattle.model.specs.Stores.{Store, erase, bucketBytes, unitStores}
 use Rattle.model.specs.Spare.{readKind, writeKind, dirtyKind}
 use Rattle.model.specs.Image.{epochOf, isDirty, blanks}
-use Rattle.model.specs.State.{State, moved, numbered, started, entry, isOf, holds, cacheOf, cachesOf, without, caches}
+use Rattle.model.specs.State.{State, moved, numbered, started, entry, withPriority, isOf, holds, cacheOf, cachesOf, isMarked, remarked, without, caches}
 use Rattle.model.specs.Steps.{Plan, Step, nothing, _then_, move, makeRoom, taken, logStores, merged, copy, evict}
 
 -- "fewer than two epochs left"; the last next epoch at which a write is taken
@@ -24,8 +24,9 @@ lastEpoch = 4294967294
 
 -- "all priorities are halved, rounding down"
 unfoldable pub halved : Entry → Entry
-halved e = entry (e .back) (e .cache) (e .priority / 2)
+halved e = withPriority (e .priority / 2) e
 
+-- b's record after a log: its priority, and no mark, since "a log .. clears the mark"
 unfoldable pub prioritised : ℕ → ℕ → Entry → Entry
 prioritised b p e = if isOf b e then entry b (e .cache) p else e
 
@@ -113,9 +114,19 @@ module _ (z : Sizes) where
 unfoldable pub touch : ℕ → State → State
 touch b s = moved s (without b (s .reads) ++ map (λ c. entry b c 0) (cachesOf b (s .reads))) (s .writes) (s .gc) (s .free)
 
--- the least recent read bucket joins GC
+-- b has a read bucket, and no log that is not in it
+unfoldable pub isCurrent : ℕ → State → Bool
+isCurrent b s = holds b (s .reads) && (not (holds b (s .writes)) || isMarked b (s .writes))
+
+-- b's record, if it has one, is marked
+unfoldable pub setMark : ℕ → State → State
+setMark b s = moved s (s .reads) (map (remarked b true) (s .writes)) (s .gc) (s .free)
+
+-- the least recent read bucket joins GC; "losing the read bucket .. clears the mark"
 unfoldable pub withoutOldest : State → State
-withoutOldest s = moved s (drop 1 (s .reads)) (s .writes) (s .gc ++ (getD (s .reads) 0 (entry 0 0 0) .cache ∷ [])) (s .free)
+withoutOldest s =
+    let oldest = getD (s .reads) 0 (entry 0 0 0) in
+    moved s (drop 1 (s .reads)) (map (remarked (oldest .back) false) (s .writes)) (s .gc ++ (oldest .cache ∷ [])) (s .free)
 
 module _ (z : Sizes) where
   -- "if the queue is full evict the least recent to GC (Dirty: write its P units first)"
@@ -128,16 +139,23 @@ module _ (z : Sizes) where
         state = withoutOldest s;
       }
 
-  -- "Read hit and write miss: made most recent, no store. Both hit: allocate, program all pages as Dirty, old read bucket to GC.
-  -- Read miss: .. then allocate and program, Read on a write miss, else Dirty. With fewer than two epochs left it answers without storing or
-  -- moving anything."
+  -- a copy of b takes the place of b's read bucket, if it has one
+  unfoldable pub makePlace : ℕ → Step
+  makePlace b s d = if holds b (s .reads) then nothing s d else dropOldest s d
+
+  -- "allocate and program, Read on a write miss, else Dirty"; "a read that programs a Dirty bucket sets" the mark
+  unfoldable pub readCopy : ℕ → List ℕ → Step
+  readCopy b bytes s =
+      let kind = if holds b (s .writes) then dirtyKind else readKind in
+      (makePlace b then copy z kind b bytes then move (setMark b)) s
+
+  -- "Read hit and write miss: made most recent, no store. Both hit: allocate, program all pages as Dirty, old read bucket to GC. Read miss: .. With
+  -- fewer than two epochs left it answers without storing or moving anything."
+  -- A read that finds all logs in the read bucket "acts as a read hit and write miss".
   unfoldable pub read : ℕ → Step
   read b s d =
-      let bytes = merged z s d b in
       if ltb lastEpoch (s .next) then nothing s d
-      else (if holds b (s .reads)
-      then (if holds b (s .writes) then copy z dirtyKind b bytes s d else move (touch b) s d)
-      else (dropOldest then copy z (if holds b (s .writes) then dirtyKind else readKind) b bytes) s d)
+      else (if isCurrent b s then move (touch b) s d else readCopy b (merged z s d b) s d)
 
 -- ---- drain
 

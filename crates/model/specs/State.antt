@@ -1,6 +1,6 @@
 -- The engine's state, its queues, and number 5.
 use Prim.Native.Nat.{ℕ}
-use mathlib.Core.Bool.{Bool, true, false, not, _&&_}
+use mathlib.Core.Bool.{Bool, true, false, not, _&&_, _||_}
 use mathlib.Core.List.{List, [], _∷_, _++_, map}
 use lib.ListN.{length}
 use lib.Dec.{leb, ltb, eqb}
@@ -44,8 +44,17 @@ started z r w g f n = record { sizes = z; running = true; reads = r; writes = w;
 
 -- ---- queues of back-end buckets
 
+-- a new record; it has no mark
 unfoldable pub entry : ℕ → ℕ → ℕ → Entry
-entry b c p = record { back = b; cache = c; priority = p }
+entry b c p = record { back = b; cache = c; priority = p; marked = false }
+
+-- the same record with another priority
+unfoldable pub withPriority : ℕ → Entry → Entry
+withPriority p e = record { back = e .back; cache = e .cache; priority = p; marked = e .marked }
+
+-- the same record with another mark
+unfoldable pub withMark : Bool → Entry → Entry
+withMark t e = record { back = e .back; cache = e .cache; priority = e .priority; marked = t }
 
 unfoldable pub isOf : ℕ → Entry → Bool
 isOf b e = eqb (e .back) b
@@ -55,14 +64,26 @@ unfoldable pub holds : ℕ → List Entry → Bool
 holds b [] = false
 holds b (e ∷ l) = if isOf b e then true else holds b l
 
+-- its record there, or one of zeros
+unfoldable pub recordOf : ℕ → List Entry → Entry
+recordOf b [] = entry 0 0 0
+recordOf b (e ∷ l) = if isOf b e then e else recordOf b l
+
 -- its cache bucket, or 0
 unfoldable pub cacheOf : ℕ → List Entry → ℕ
-cacheOf b [] = 0
-cacheOf b (e ∷ l) = if isOf b e then e .cache else cacheOf b l
+cacheOf b l = recordOf b l .cache
 
 -- its cache bucket, if it has one
 unfoldable pub cachesOf : ℕ → List Entry → List ℕ
 cachesOf b l = if holds b l then cacheOf b l ∷ [] else []
+
+-- its mark: "whether its logs are all in the read bucket"
+unfoldable pub isMarked : ℕ → List Entry → Bool
+isMarked b l = recordOf b l .marked
+
+-- b's record gets this mark
+unfoldable pub remarked : ℕ → Bool → Entry → Entry
+remarked b t e = if isOf b e then withMark t e else e
 
 unfoldable pub isOther : ℕ → Entry → Bool
 isOther b e = not (isOf b e)
@@ -112,13 +133,17 @@ module _ (z : Sizes) (d : Device) where
   unfoldable pub allBlank : ℕ → Bool
   allBlank c = eqb (blanks z d c) (z .p)
 
+-- "Number 5 covers a mark set without a read bucket."
+unfoldable pub markFits : (reads : List Entry) → Entry → Bool
+markFits reads e = not (e .marked) || holds (e .back) reads
+
 -- the largest epoch of a bucket on the chip, or 0
 unfoldable pub topEpoch : Sizes → Device → ℕ
 topEpoch z d = maxBelow (body z) (epochOf z d)
 
 -- number 5: none of "queues do not hold each cache bucket once, a queue is too long, maps a back-end bucket twice or disagrees with
 -- spare fields, a queued read bucket is incomplete, a free bucket has a non-blank page, a priority is above P, the write count above 15,
--- or next epoch is 0, is not above all present or exceeds 4,294,967,296"
+-- or next epoch is 0, is not above all present or exceeds 4,294,967,296", and no "mark set without a read bucket"
 unfoldable pub stateFits : State → Device → Bool
 stateFits s d = every
     (eachOnce (body (s .sizes)) (queued s)
@@ -132,4 +157,5 @@ stateFits s d = every
     ∷ leb (s .accepted) 15
     ∷ leb 1 (s .next)
     ∷ ltb (topEpoch (s .sizes) d) (s .next)
-    ∷ leb (s .next) 4294967296 ∷ [])
+    ∷ leb (s .next) 4294967296
+    ∷ all (markFits (s .reads)) (s .writes) ∷ [])

@@ -9,7 +9,7 @@ use Rattle.model.specs.Sizes.{Device, pagesFor}
 use Rattle.model.specs.Stores.{Store, program, erase, applyAll, bucketBytes, diskBytes, pageBytes, unitStores}
 use Rattle.model.specs.Spare.{dirtyKind, tagBytes}
 use Rattle.model.specs.Image.{merge}
-use Rattle.model.specs.State.{State, moved, numbered, entry, holds, cacheOf, cachesOf, without}
+use Rattle.model.specs.State.{State, moved, numbered, entry, holds, cacheOf, cachesOf, isMarked, without}
 
 -- the stores of an operation, in order, and the state once all are made
 pub record Plan : Type 0 where
@@ -93,7 +93,9 @@ module _ (z : Sizes) where
 
   -- "Evict a Write bucket. With a read bucket: allocate, program all P pages as Dirty, which takes over the mapping as most recent; old read
   -- bucket, then Write bucket, join GC. Without: write all P units in rising order; the Write bucket joins GC."
+  -- An eviction that finds all logs in the read bucket "makes no Dirty bucket" and "just sends the Write bucket to GC".
   unfoldable pub evict : ℕ → Step
   evict b s d =
       let bytes = merged s d b in
-      ((if holds b (s .reads) then copy dirtyKind b bytes else writeOut b bytes) then move (dropWrite b)) s d
+      ((if isMarked b (s .writes) then nothing else (if holds b (s .reads) then copy dirtyKind b bytes else writeOut b bytes))
+      then move (dropWrite b)) s d

@@ -37,11 +37,12 @@ pub struct Sizes {
     pub w: usize,
 }
 
-// A place in the read or the write queue. The priority counts in the write queue alone.
+// A record of the read or the write queue. The priority and the mark, that its logs are all in the read bucket, count in the write queue alone.
 pub struct Entry {
     pub back: u16,
     pub cache: u8,
     pub priority: u8,
+    pub marked: bool,
 }
 
 pub enum Answer {

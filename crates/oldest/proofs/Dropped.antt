@@ -16,7 +16,7 @@ use Rattle.model.specs.declared.Entry.{Entry}
 use Rattle.model.specs.Sizes.{Device, body}
 use Rattle.model.specs.Stores.{bucketBytes, unitStores}
 use Rattle.model.specs.Image.{isDirty}
-use Rattle.model.specs.State.{State, moved, entry, isBelow, cacheBucket, caches}
+use Rattle.model.specs.State.{State, moved, entry, isBelow, cacheBucket, caches, remarked}
 use Rattle.model.specs.Steps.{nothing}
 use Rattle.model.specs.Operations.{dropOldest, withoutOldest}
 use Rattle.queue.specs.View.{noEntry}
@@ -26,6 +26,8 @@ use Rattle.steps.specs.Turns.{after}
 use Rattle.steps.specs.Ready.{Ready}
 use Rattle.steps.proofs.Inside.{both-inside, one-inside}
 use Rattle.oldest.specs.Drops.{Drops}
+use Rattle.model.proofs.QueuesGrown.{caches-map}
+use Rattle.model.proofs.Marks.{keeps-remarked}
 
 -- t is s with a place in the read queue
 pub record Dropped (s t : State) : Type 0 where
@@ -70,7 +72,7 @@ module _ (s : State) (o : Drops s) where
               limits = o .orderly .limits;
               bounded = bounded;
               reads = rest-inside c (s .reads) (o .orderly .reads);
-              writes = o .orderly .writes;
+              writes = rw (caches-map (remarked (getD (s .reads) 0 noEntry .back) false) (keeps-remarked (getD (s .reads) 0 noEntry .back) false) (s .writes)) (o .orderly .writes);
               gc = both-inside c (s .gc) (getD (s .reads) 0 noEntry .cache ∷ []) (o .orderly .gc) (one-inside c (getD (s .reads) 0 noEntry .cache) oldest-below);
               free = o .orderly .free;
             };

@@ -11,7 +11,7 @@ use borrow.Author.Tests.{eqb-true, eqb-false, eq-eqb, ne-eqb, lt-ltb}
 use Rattle.lists.specs.Lists.{if_then_else_, any, member, distinct}
 use Rattle.lists.proofs.Arrays.{rest-more}
 use Rattle.model.specs.declared.Entry.{Entry}
-use Rattle.model.specs.State.{isOf, holds, cacheOf, backBucket, backs}
+use Rattle.model.specs.State.{entry, isOf, holds, recordOf, backBucket, backs}
 use Rattle.queue.specs.View.{noEntry, indexOf}
 
 pub holds-index : (b : ℕ) (l : List Entry) → holds b l ≡ ltb (indexOf b l) (length l)
@@ -24,13 +24,12 @@ holds-index b (e ∷ l) = at (isOf b e) (holds-index b l)
     at true h = sym (lt-ltb 0 (suc (length l)) (omega arith))
     at false h = rw (add-one (indexOf b l)) (h ∙ sym (leb·suc-suc (suc (indexOf b l)) (length l)))
 
-pub cache-index : (b : ℕ) (l : List Entry) → cacheOf b l ≡ getD l (indexOf b l) noEntry .cache
-unfolding cacheOf indexOf
-cache-index b [] = refl
-cache-index b (e ∷ l) = at (isOf b e) (cache-index b l)
+pub record-index : (b : ℕ) (l : List Entry) → recordOf b l ≡ getD l (indexOf b l) noEntry
+unfolding recordOf indexOf entry
+record-index b [] = refl
+record-index b (e ∷ l) = at (isOf b e) (record-index b l)
   where
-    at : (t : Bool) → cacheOf b l ≡ getD l (indexOf b l) noEntry .cache
-        → (if t then e .cache else cacheOf b l) ≡ getD (e ∷ l) (if t then 0 else indexOf b l + 1) noEntry .cache
+    at : (t : Bool) → recordOf b l ≡ getD l (indexOf b l) noEntry → (if t then e else recordOf b l) ≡ getD (e ∷ l) (if t then 0 else indexOf b l + 1) noEntry
     at true h = refl
     at false h = rw (add-one (indexOf b l)) h
 

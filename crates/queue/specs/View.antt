@@ -1,5 +1,6 @@
 -- A queue is seen as the list of its first `len` entries.
 use Prim.Native.Nat.{ℕ, _+_}
+use mathlib.Core.Bool.{false}
 use mathlib.Core.List.{List, [], _∷_}
 use lib.ListN.{length, take}
 use Rattle.lists.specs.Lists.{if_then_else_}
@@ -13,7 +14,7 @@ entriesOf q = take (q .len) (q .items)
 
 -- what the logic reads past an array's end
 abbrev pub noEntry : Entry
-noEntry = record { back = 0; cache = 0; priority = 0 }
+noEntry = record { back = 0; cache = 0; priority = 0; marked = false }
 
 -- the one struct of a list: zeros in the unused places
 abbrev pub queueOf : List Entry → Queue

@@ -10,7 +10,7 @@ ghost use lib.Seq.{paste};
 ghost use Rattle.lists.specs.Lists.{distinct};
 ghost use Rattle.lists.specs.Arrays.{joined, padded};
 ghost use Rattle.fifo.specs.View.{listOf};
-ghost use Rattle.model.specs.State.{entry, holds, cacheOf, without, caches, backs};
+ghost use Rattle.model.specs.State.{entry, holds, cacheOf, isMarked, remarked, without, caches, backs};
 ghost use Rattle.model.specs.Operations.{halved, prioritised};
 ghost use Rattle.queue.specs.View.{entriesOf, noEntry, queueOf, indexOf};
 
@@ -19,13 +19,14 @@ pub struct Queue {
     pub len: usize,
 }
 
-// Whether a back-end bucket is in a queue, and its cache bucket, 0 where there is none.
+// Whether a back-end bucket is in a queue, its cache bucket, 0 where there is none, and its mark.
 pub struct Found {
     pub held: bool,
     pub cache: u8,
+    pub marked: bool,
 }
 
-// A place in a queue.
+// A new record, without a mark.
 pub fn entry(back: u16, cache: u8, priority: u8) -> Entry
     ensures { λ r. ⌜ r ≡ entry back cache priority ⌝ }
 {
@@ -33,6 +34,7 @@ pub fn entry(back: u16, cache: u8, priority: u8) -> Entry
         back,
         cache,
         priority,
+        marked: false,
     }
 }
 
@@ -128,9 +130,9 @@ impl Queue {
         i < n
     }
 
-    // The same with its cache bucket, by one search.
+    // The same with its cache bucket and its mark, by one search.
     pub fn find(self, b: u16) -> Found
-        ensures { λ r. ⌜ (r .held ≡ holds b (entriesOf self)) × (r .cache ≡ cacheOf b (entriesOf self)) ⌝ }
+        ensures { λ r. ⌜ (r .held ≡ holds b (entriesOf self)) × (r .cache ≡ cacheOf b (entriesOf self)) × (r .marked ≡ isMarked b (entriesOf self)) ⌝ }
     {
         let n = self.used();
         let items = self.items;
@@ -139,12 +141,14 @@ impl Queue {
             return Found {
                 held: false,
                 cache: 0,
+                marked: false,
             };
         }
         let e = items[i];
         Found {
             held: true,
             cache: e.cache,
+            marked: e.marked,
         }
     }
 
@@ -156,6 +160,14 @@ impl Queue {
         found.cache
     }
 
+    // Whether its logs are all in the read bucket.
+    pub fn is_marked(self, b: u16) -> bool
+        ensures { λ r. ⌜ r ≡ isMarked b (entriesOf self) ⌝ }
+    {
+        let found = self.find(b);
+        found.marked
+    }
+
     // All entries but those of b.
     pub fn without(self, b: u16) -> Self
         ensures { λ r. ⌜ entriesOf r ≡ without b (entriesOf self) ⌝ }
@@ -165,13 +177,25 @@ impl Queue {
         others(items, n, b)
     }
 
-    // The priority p at b.
+    // The priority p at b after a log, which clears the mark.
     pub fn prioritise(mut self, b: u16, p: u8) -> Self
         ensures { λ r. ⌜ entriesOf r ≡ map (prioritised b p) (entriesOf self) ⌝ }
     {
         let n = self.used();
         let items = self.items;
         let next = with_priority(items, n, b, p);
+        self.items = next;
+        self.len = n;
+        self
+    }
+
+    // The mark t at b.
+    pub fn mark(mut self, b: u16, t: bool) -> Self
+        ensures { λ r. ⌜ entriesOf r ≡ map (remarked b t) (entriesOf self) ⌝ }
+    {
+        let n = self.used();
+        let items = self.items;
+        let next = with_mark(items, n, b, t);
         self.items = next;
         self.len = n;
         self
@@ -261,13 +285,31 @@ fn others(items: [Entry; 64], n: usize, b: u16) -> Queue
     Queue { items: a, len: k }
 }
 
-// The entry with the priority p, if it is b's.
+// The entry with the priority p and no mark, if it is b's.
 fn set_at(mut e: Entry, b: u16, p: u8) -> Entry
     ensures { λ r. ⌜ r ≡ prioritised b p e ⌝ }
 {
     if e.back == b {
         e.priority = p;
+        e.marked = false;
     }
+    e
+}
+
+// The entry with the mark t, if it is b's.
+fn mark_at(mut e: Entry, b: u16, t: bool) -> Entry
+    ensures { λ r. ⌜ r ≡ remarked b t e ⌝ }
+{
+    if e.back == b {
+        e.marked = t;
+    }
+    e
+}
+
+fn halve_at(mut e: Entry) -> Entry
+    ensures { λ r. ⌜ r ≡ halved e ⌝ }
+{
+    e.priority = e.priority / 2;
     e
 }
 
@@ -286,6 +328,21 @@ fn with_priority(items: [Entry; 64], n: usize, b: u16, p: u8) -> [Entry; 64]
     a
 }
 
+fn with_mark(items: [Entry; 64], n: usize, b: u16, t: bool) -> [Entry; 64]
+    requires { ⌜ n ≤ 64 ⌝ }
+    ensures { λ r. ⌜ take n r ≡ map (remarked b t) (take n items) ⌝ }
+{
+    let mut a = items;
+    let mut i = 0;
+    while i < n {
+        let e = a[i];
+        let f = mark_at(e, b, t);
+        a[i] = f;
+        i += 1;
+    }
+    a
+}
+
 fn halves(items: [Entry; 64], n: usize) -> [Entry; 64]
     requires { ⌜ n ≤ 64 ⌝ }
     ensures { λ r. ⌜ take n r ≡ map halved (take n items) ⌝ }
@@ -294,7 +351,8 @@ fn halves(items: [Entry; 64], n: usize) -> [Entry; 64]
     let mut i = 0;
     while i < n {
         let e = a[i];
-        a[i] = entry(e.back, e.cache, e.priority / 2);
+        let f = halve_at(e);
+        a[i] = f;
         i += 1;
     }
     a

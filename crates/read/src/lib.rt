@@ -5,7 +5,7 @@ use outcome::Outcome;
 use state::State;
 use steps::Turn;
 ghost use mathlib.Core.Path.{_≡_};
-ghost use mathlib.Core.Bool.{not, _&&_, _||_};
+ghost use mathlib.Core.Bool.{_||_};
 ghost use Prim.Native.Nat.{_+_, _≤_};
 ghost use lib.ListN.{length};
 ghost use Rattle.lists.specs.Lists.{if_then_else_, part};
@@ -13,7 +13,7 @@ ghost use Rattle.model.specs.Sizes.{bucketSize};
 ghost use Rattle.model.specs.Spare.{readKind, dirtyKind};
 ghost use Rattle.model.specs.State.{holds};
 ghost use Rattle.model.specs.Steps.{nothing};
-ghost use Rattle.model.specs.Operations.{lastEpoch, touch, read};
+ghost use Rattle.model.specs.Operations.{lastEpoch, touch, isCurrent, makePlace, readCopy, read};
 ghost use Rattle.model.specs.Calls.{readCall, carryOut, call};
 ghost use Rattle.geometry.specs.Geometry.{device, Lent};
 ghost use Rattle.meter.specs.Run.{running};
@@ -23,7 +23,7 @@ ghost use Rattle.gather.specs.Sources.{Sources};
 ghost use Rattle.steps.specs.Turns.{reached, after};
 ghost use Rattle.outcome.specs.Handed.{handedBack, handed};
 ghost use Rattle.oldest.specs.Drops.{Drops};
-ghost use Rattle.read.specs.Reads.{Reads, roomFor, copyOf, copyHanded};
+ghost use Rattle.read.specs.Reads.{Reads, copyHanded};
 
 // Nothing is stored: the bytes asked for are gathered in the buffer itself.
 fn answer(
@@ -46,11 +46,11 @@ fn answer(
     outcome::finish(whole, allowance, Answer::Done, s, new)
 }
 
-// Dirty beside a read or a Write bucket, else Read.
-fn copy_kind(s: State, held: bool, b: u16) -> u8
-    ensures { λ r. ⌜ r ≡ (if held || holds b (entriesOf (s .writes)) then dirtyKind else readKind) ⌝ }
+// Read on a write miss, else Dirty.
+fn copy_kind(s: State, b: u16) -> u8
+    ensures { λ r. ⌜ r ≡ (if holds b (entriesOf (s .writes)) then dirtyKind else readKind) ⌝ }
 {
-    if held | s.writes.holds(b) {
+    if s.writes.holds(b) {
         model::DIRTY_KIND
     } else {
         model::READ_KIND
@@ -58,26 +58,26 @@ fn copy_kind(s: State, held: bool, b: u16) -> u8
 }
 
 // Unless b has a read bucket, whose place the copy takes, the least recent one gives way.
-fn room_for(
+fn make_place(
     meter: Meter,
     s: State,
-    held: bool,
+    b: u16,
     flash: &mut [u8],
     spare: &mut [u8],
     disk: &mut [u8],
 ) -> Turn
     requires { ⌜ Lent (s .sizes) (now flash) (now spare) (now disk) ⌝ }
     requires { ⌜ Drops (placesOf s) ⌝ }
-    ensures { λ r. ⌜ reached (now (flash .exit)) (now (spare .exit)) (now (disk .exit)) r ≡ after (s .sizes) (roomFor (s .sizes) held) (placesOf s) (running (now (flash .entry)) (now (spare .entry)) (now (disk .entry)) meter) ⌝ }
+    ensures { λ r. ⌜ reached (now (flash .exit)) (now (spare .exit)) (now (disk .exit)) r ≡ after (s .sizes) (makePlace (s .sizes) b) (placesOf s) (running (now (flash .entry)) (now (spare .entry)) (now (disk .entry)) meter) ⌝ }
     ensures { λ _. ⌜ Lent (s .sizes) (now (flash .exit)) (now (spare .exit)) (now (disk .exit)) ⌝ }
 {
-    if held {
+    if s.reads.holds(b) {
         return Turn { meter, state: s };
     }
     oldest::drop_oldest(meter, s, flash, spare, disk)
 }
 
-// The bytes of b are programmed as its read bucket.
+// The bytes of b are programmed as its read bucket; its logs, if it has any, are all in it then.
 fn make_copy(
     meter: Meter,
     s: State,
@@ -89,15 +89,17 @@ fn make_copy(
 ) -> Turn
     requires { ⌜ Lent (s .sizes) (now flash) (now spare) (now disk) ⌝ }
     requires { ⌜ Drops (placesOf s) × (s .next ≤ lastEpoch) × (length (now bytes) ≡ bucketSize (s .sizes)) ⌝ }
-    ensures { λ r. ⌜ reached (now (flash .exit)) (now (spare .exit)) (now (disk .exit)) r ≡ after (s .sizes) (copyOf (s .sizes) b (now (bytes .entry))) (placesOf s) (running (now (flash .entry)) (now (spare .entry)) (now (disk .entry)) meter) ⌝ }
+    ensures { λ r. ⌜ reached (now (flash .exit)) (now (spare .exit)) (now (disk .exit)) r ≡ after (s .sizes) (readCopy (s .sizes) b (now (bytes .entry))) (placesOf s) (running (now (flash .entry)) (now (spare .entry)) (now (disk .entry)) meter) ⌝ }
     ensures { λ _. ⌜ Lent (s .sizes) (now (flash .exit)) (now (spare .exit)) (now (disk .exit)) ⌝ }
 {
-    let held = s.reads.holds(b);
-    let kind = copy_kind(s, held, b);
-    let room = room_for(meter, s, held, flash, spare, disk);
-    let left = room.meter;
-    let state = room.state;
-    copying::copy(left, state, kind, b, bytes, flash, spare, disk)
+    let kind = copy_kind(s, b);
+    let place = make_place(meter, s, b, flash, spare, disk);
+    let rest = place.meter;
+    let room = place.state;
+    let made = copying::copy(rest, room, kind, b, bytes, flash, spare, disk);
+    let left = made.meter;
+    let state = made.state.set_mark(b);
+    Turn { meter: left, state }
 }
 
 // The bytes asked for, unless the read was cut.
@@ -226,12 +228,13 @@ fn copy_read(
     }
 }
 
-// With fewer than two epochs left, or on a read hit and write miss.
+// With fewer than two epochs left, or with a read bucket that has all logs.
 fn stores_nothing(s: State, last: bool, b: u16) -> bool
-    ensures { λ r. ⌜ r ≡ (last || (holds b (entriesOf (s .reads)) && not (holds b (entriesOf (s .writes))))) ⌝ }
+    ensures { λ r. ⌜ r ≡ (last || isCurrent b (placesOf s)) ⌝ }
 {
     let read = s.reads.holds(b);
-    last | (read & !s.writes.holds(b))
+    let logs = s.writes.find(b);
+    last | (read & (!logs.held | logs.marked))
 }
 
 // A read without a store touches the read bucket; with fewer than two epochs left it moves nothing either.

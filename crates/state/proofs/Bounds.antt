@@ -4,7 +4,7 @@ use mathlib.Core.Path.{_≡_}
 use mathlib.Core.Bool.{false, true≢false}
 use mathlib.Core.List.{List, [], _∷_}
 use native.Mathlib.Omega.{arith}
-use lib.ListN.{length, length-append, length-drop}
+use lib.ListN.{length, length-append, length-drop, length-map}
 use Rattle.lists.specs.Lists.{empty}
 use Rattle.queue.proofs.Without.{without-length}
 use Rattle.model.specs.State.{State, moved, without}
@@ -50,8 +50,8 @@ module _ (s : State) (b : Bounded s) where
       let n = not-empty (s .reads) h in
       record {
         reads = simp length-drop (omega arith);
-        writes = b .writes;
-        total = simp (length-append, length-drop) (omega arith);
+        writes = simp length-map (b .writes);
+        total = simp (length-append, length-drop, length-map) (omega arith);
         next = b .next;
       }
 

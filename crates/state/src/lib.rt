@@ -13,7 +13,7 @@ ghost use Rattle.lists.specs.Arrays.{joined};
 ghost use Rattle.model.specs.Sizes.{Device};
 ghost use Rattle.model.specs.State.{unformatted, moved, entry, cachesOf, without};
 ghost use Rattle.model.specs.Steps.{freed, makeRoom, taken, dropWrite, takeCopy};
-ghost use Rattle.model.specs.Operations.{halved, counted, accept, takeWrite, touch, withoutOldest};
+ghost use Rattle.model.specs.Operations.{halved, counted, accept, takeWrite, touch, setMark, withoutOldest};
 ghost use Rattle.fifo.specs.View.{listOf};
 ghost use Rattle.queue.specs.View.{entriesOf};
 ghost use Rattle.state.specs.View.{placesOf, hasPlaces, viewOf, stateOf, halted, Bounded};
@@ -172,15 +172,26 @@ impl State {
         self
     }
 
-    // The least recent read bucket joins GC.
+    // b's logs are all in its read bucket.
+    pub fn set_mark(mut self, b: u16) -> Self
+        ensures { λ r. ⌜ placesOf r ≡ setMark b (placesOf self) ⌝ }
+    {
+        let writes = self.writes.mark(b, true);
+        self.writes = writes;
+        self
+    }
+
+    // The least recent read bucket joins GC, and its back-end bucket loses the mark.
     pub fn drop_oldest(mut self) -> Self
         requires { ⌜ Bounded (withoutOldest (placesOf self)) ⌝ }
         ensures { λ r. ⌜ placesOf r ≡ withoutOldest (placesOf self) ⌝ }
     {
         let oldest = self.reads.first();
         let reads = self.reads.rest();
+        let writes = self.writes.mark(oldest.back, false);
         let gc = self.gc.push(oldest.cache);
         self.reads = reads;
+        self.writes = writes;
         self.gc = gc;
         self
     }

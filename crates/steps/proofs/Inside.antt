@@ -10,7 +10,7 @@ use Rattle.lists.proofs.Tests.{and-left, and-right, and-true}
 use Rattle.lists.proofs.Arrays.{all-append}
 use Rattle.lists.proofs.Rows.{map-append}
 use Rattle.model.specs.declared.Entry.{Entry}
-use Rattle.model.specs.State.{isOf, isOther, holds, cacheOf, cachesOf, without, cacheBucket, caches, isBelow}
+use Rattle.model.specs.State.{isOf, isOther, holds, cacheOf, cachesOf, without, cacheBucket, caches, isBelow, recordOf, entry}
 
 module _ (c : ℕ) where
   pub both-inside : (l m : List ℕ) → all (isBelow c) l ≡ true → all (isBelow c) m ≡ true → all (isBelow c) (l ++ m) ≡ true
@@ -31,11 +31,11 @@ module _ (c : ℕ) where
 
   module _ (b : ℕ) where
     pub cache-inside : (l : List Entry) → all (isBelow c) (caches l) ≡ true → 0 < c → cacheOf b l < c
-    unfolding all caches cacheBucket cacheOf isBelow
+    unfolding all caches cacheBucket cacheOf recordOf entry isBelow
     cache-inside [] h some = some
     cache-inside (e ∷ l) h some = at (isOf b e) (cache-inside l (and-right (isBelow c (e .cache)) (all (isBelow c) (caches l)) h) some)
       where
-        at : (t : Bool) → cacheOf b l < c → (if t then e .cache else cacheOf b l) < c
+        at : (t : Bool) → cacheOf b l < c → (if t then e else recordOf b l) .cache < c
         at true k = ltb-true (e .cache) c (and-left (isBelow c (e .cache)) (all (isBelow c) (caches l)) h)
         at false k = k
 

@@ -1,23 +1,26 @@
-use Rattle.geometry.proofs.Passed.{products}
-use Rattle.model.specs.Sizes.{bucketSize}
-use native.Mathlib.Omega.{arith}
+use mathlib.Core.Path.{sym, _∙_}
 use borrow.Author.Needs.{needs}
+use Rattle.steps.proofs.Kept.{dropped-orderly}
+use Rattle.meter.specs.Run.{running}
+use Rattle.state.specs.View.{placesOf}
+use Rattle.evict.proofs.Evicted.{marked-evict, unmarked-evict}
 use Rattle.evict.proofs.evict.Statement.{statement}
 use Rattle.evict.proofs.evict.Tie as tie
 
-mul-size : tie.Need-mul-size
-mul-size c = omega (arith, products (c .before .before .before .before .before .pre .1 .0 .ready .orderly .limits))
+is-marked-requires : tie.Need-is-marked-requires
+is-marked-requires c κs = search needs
 
-evict-small-requires : tie.Need-evict-small-requires
-unfolding bucketSize
-evict-small-requires c κs =
-    let start = c .before .before .before .before .before .before .before .before .before in
-    (start .pre .0, (start .pre .1, c .before .before .before .if1 .taken))
+drop-write-requires : tie.Need-drop-write-requires
+drop-write-requires c κs = let start = c .before .before .before .before .before in
+    dropped-orderly (start .args .b) (placesOf (start .args .s)) (start .pre .1 .0 .ready .orderly) .bounded
 
-evict-large-requires : tie.Need-evict-large-requires
-evict-large-requires c κs =
-    let start = c .before .before .before .before .before .before .before .before .before in
-    (start .pre .0, start .pre .1)
+returns : tie.Need-returns
+returns c = let start = c .before .before .before .before .before .before in
+    let a = start .args in
+    (rw (c .drop-write .ensures) (marked-evict (placesOf (a .s)) (a .b) (start .pre .1 .0) (a .s .sizes) (running (a .flash .now) (a .spare .now) (a .disk .now) (a .meter)) (sym (c .before .before .is-marked .ensures) ∙ c .before .if1 .taken)), start .pre .0)
+
+put-out-requires : tie.Need-put-out-requires
+put-out-requires c κs = search needs
 
 same-length : tie.Need-same-length
 same-length c = search needs
@@ -28,33 +31,20 @@ same-length-2 c = search needs
 same-length-3 : tie.Need-same-length-3
 same-length-3 c = search needs
 
-returns : tie.Need-returns
-returns c = c .before .before .before .before .before .before .evict-small .ensures
-
-same-length-4 : tie.Need-same-length-4
-same-length-4 c = search needs
-
-same-length-5 : tie.Need-same-length-5
-same-length-5 c = search needs
-
-same-length-6 : tie.Need-same-length-6
-same-length-6 c = search needs
-
 returns-2 : tie.Need-returns-2
-returns-2 c = c .before .before .before .before .before .before .evict-large .ensures
+returns-2 c = let start = c .before .before .before .before .before .before .before .before .before .before .before .before .before .before .before in
+    let a = start .args in
+    (c .before .before .before .before .before .before .put-out .ensures .0 ∙ unmarked-evict (placesOf (a .s)) (a .b) (start .pre .1 .0) (a .s .sizes) (running (a .flash .now) (a .spare .now) (a .disk .now) (a .meter)) (sym (c .before .before .before .before .before .before .before .before .before .before .before .is-marked .ensures) ∙ c .before .before .before .before .before .before .before .before .before .before .if1 .left), c .before .before .before .before .before .before .put-out .ensures .1)
 
 pub evict-spec : {M : Type 1} → statement M
 evict-spec =
     tie.close
     (tie.spec
-    mul-size
-    evict-small-requires
-    evict-large-requires
+    is-marked-requires
+    drop-write-requires
+    returns
+    put-out-requires
     same-length
     same-length-2
     same-length-3
-    returns
-    same-length-4
-    same-length-5
-    same-length-6
     returns-2)

@@ -1,6 +1,6 @@
 use mathlib.Core.Path.{refl}
 use lib.ListN.{length}
-use Rattle.evict.proofs.Evicted.{dropped-left, evicted-by}
+use Rattle.evict.proofs.Evicted.{dropped-left, put-out-by}
 use Rattle.state.specs.View.{placesOf}
 use Rattle.meter.specs.Run.{running}
 use Rattle.gather.proofs.Gathered.{sources-of, all-shown}
@@ -54,7 +54,7 @@ returns c =
     let evicts = start .pre .1 .0 .0 in
     let sources = sources-of (evicts .ready .orderly) (start .pre .1 .0 .1) (evicts .back) (start .pre .0) in
     let put = put-away .ensures in
-    (rw (c .drop-write .ensures) (evicted-by (placesOf (a .s)) (a .b) (start .pre .1 .0 .0) (a .s .sizes) _ (running (a .flash .now) (a .spare .now) (a .disk .now) (a .meter)) (put .0) refl (rw (all-shown sources (length (a .buffer .now)) (start .pre .1 .1)) at (merged-range .ensures))), put .1)
+    (rw (c .drop-write .ensures) (put-out-by (placesOf (a .s)) (a .b) (start .pre .1 .0 .0) (a .s .sizes) _ (running (a .flash .now) (a .spare .now) (a .disk .now) (a .meter)) (put .0) refl (rw (all-shown sources (length (a .buffer .now)) (start .pre .1 .1)) at (merged-range .ensures))), put .1)
 
 pub evict-by-spec : {M : Type 1} → statement M
 evict-by-spec =

@@ -31,10 +31,14 @@ tags-agree-requires c κs = let s = placesOf (c .before .before .before .before 
 numbers-fit-requires : tie.Need-numbers-fit-requires
 numbers-fit-requires c κs = search needs
 
+marks-fit-requires : tie.Need-marks-fit-requires
+marks-fit-requires c κs = search needs
+
 returns-2 : tie.Need-returns-2
-returns-2 c = let s = placesOf (c .before .before .before .before .before .before .args .s) in
-    let e : eachOnce (body (s .sizes)) (queued s) ≡ true = sym (c .before .before .before .before .buckets-once .ensures) ∙ not-false _ (c .before .before .before .if1 .left) in
-    rw (parts s (spareOnly (c .before .before .before .before .before .before .args .spare .now)), e, c .numbers-fit .ensures, c .before .tags-agree .ensures, c .before .before .queues-fit .ensures)
+returns-2 c = let start = c .before .before .before .before .before .before .before in
+    let s = placesOf (start .args .s) in
+    let e : eachOnce (body (s .sizes)) (queued s) ≡ true = sym (c .before .before .before .before .before .buckets-once .ensures) ∙ not-false _ (c .before .before .before .before .if1 .left) in
+    rw (parts s (spareOnly (start .args .spare .now)), e, c .marks-fit .ensures, c .before .numbers-fit .ensures, c .before .before .tags-agree .ensures, c .before .before .before .queues-fit .ensures)
 
 pub places-fit-spec : {M : Type 1} → statement M
 places-fit-spec =
@@ -45,4 +49,5 @@ places-fit-spec =
     queues-fit-requires
     tags-agree-requires
     numbers-fit-requires
+    marks-fit-requires
     returns-2)

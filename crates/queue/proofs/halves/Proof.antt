@@ -26,8 +26,8 @@ mul-e c = search needs
 array-copy-out-e : tie.Need-array-copy-out-e Inv-loop μ-loop
 array-copy-out-e c = search needs
 
-entry-requires : tie.Need-entry-requires Inv-loop μ-loop
-entry-requires c κs = search needs
+halve-at-requires : tie.Need-halve-at-requires Inv-loop μ-loop
+halve-at-requires c κs = search needs
 
 mul-a : tie.Need-mul-a Inv-loop μ-loop
 mul-a c = search needs
@@ -42,10 +42,9 @@ loop-less : tie.Need-loop-less Inv-loop μ-loop
 loop-less c = search needs
 
 loop-again : tie.Need-loop-again Inv-loop μ-loop
-unfolding halved
-loop-again c = let l = c .before .before .before .before .loop in
-    let x = c .before .before .before .before .before .args in
-    (search needs, rw (c .entry .ensures, unwritten (l .i) (l .a) (x .items) (l .inv .2) noEntry) (mapped-more halved (l .i) (x .items) (l .a) noEntry (omega arith) (omega arith) (l .inv .1)), unwritten-behind (l .i) (l .a) (x .items) (l .inv .2) (l .i) _ (omega arith), rw length-set (l .inv .3), l .inv .4)
+loop-again c = let l = c .before .before .before .loop in
+    let x = c .before .before .before .before .args in
+    (search needs, rw (c .halve-at .ensures, unwritten (l .i) (l .a) (x .items) (l .inv .2) noEntry) (mapped-more halved (l .i) (x .items) (l .a) noEntry (omega arith) (omega arith) (l .inv .1)), unwritten-behind (l .i) (l .a) (x .items) (l .inv .2) (l .i) _ (omega arith), rw length-set (l .inv .3), l .inv .4)
 
 returns : tie.Need-returns Inv-loop μ-loop
 returns c = let l = c .before .loop in
@@ -61,7 +60,7 @@ halves-spec =
     loop-holds
     mul-e
     array-copy-out-e
-    entry-requires
+    halve-at-requires
     mul-a
     array-set-from-a
     add-i

@@ -6,7 +6,7 @@ use Rattle.gather.proofs.Gathered.{all-shown}
 use Rattle.model.specs.Steps.{merged}
 use Rattle.geometry.specs.Geometry.{device}
 use Rattle.state.specs.View.{placesOf}
-use Rattle.read.specs.Reads.{copyOf}
+use Rattle.model.specs.Operations.{readCopy}
 use Rattle.read.proofs.Copies.{sources}
 use Rattle.read.proofs.Plans.{handed-read}
 use borrow.Author.Needs.{needs}
@@ -68,7 +68,7 @@ returns c =
     let d = device (a .flash .now) (a .spare .now) (a .disk .now) in
     let bytes = rw (all-shown (sources (start .pre .1 .0) (start .pre .0)) (length (a .bytes .now)) (start .pre .1 .1 .1)) at (merged-range .ensures) in
     rw (c .finish .ensures)
-    (handed-read (a .allowance) (a .s) d (copyOf z (a .b) (merged z v d (a .b))) (rw (bytes, whole .ensures) at (make-copy .ensures .0)) (a .b) (a .offset) (a .buffer .now) (rw bytes at (c .before .before .before .show .ensures)))
+    (handed-read (a .allowance) (a .s) d (readCopy z (a .b) (merged z v d (a .b))) (rw (bytes, whole .ensures) at (make-copy .ensures .0)) (a .b) (a .offset) (a .buffer .now) (rw bytes at (c .before .before .before .show .ensures)))
 
 pub copy-by-spec : {M : Type 1} → statement M
 copy-by-spec =

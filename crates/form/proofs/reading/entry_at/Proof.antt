@@ -1,5 +1,5 @@
 -- `reading::entry_at` meets its contract.
-use mathlib.Core.Path.{sym, _∙_}
+use mathlib.Core.Path.{sym}
 use borrow.Author.Needs.{needs}
 use Rattle.form.proofs.Found.{entry-at}
 use Rattle.form.proofs.reading.entry_at.Statement.{statement}
@@ -14,21 +14,24 @@ add-byte-at c = search needs
 byte-at-requires : tie.Need-byte-at-requires
 byte-at-requires c κs = search needs
 
-add-priority-at : tie.Need-add-priority-at
-add-priority-at c = search needs
+add-extra-at : tie.Need-add-extra-at
+add-extra-at c = search needs
 
-priority-at-requires : tie.Need-priority-at-requires
-priority-at-requires c κs = search needs
+extra-at-requires : tie.Need-extra-at-requires
+extra-at-requires c κs = search needs
 
-cast-entry : tie.Need-cast-entry
-cast-entry c = search needs
+add-extra-at-2 : tie.Need-add-extra-at-2
+add-extra-at-2 c = search needs
 
-entry-requires : tie.Need-entry-requires
-entry-requires c κs = search needs
+extra-at-requires-2 : tie.Need-extra-at-requires-2
+extra-at-requires-2 c κs = search needs
+
+cast-t9 : tie.Need-cast-t9
+cast-t9 c = search needs
 
 returns : tie.Need-returns
 returns c = let a = c .before .before .before .before .before .args in
-    c .entry .ensures ∙ rw (c .before .before .before .number-at .ensures .0, c .before .before .byte-at .ensures, c .before .priority-at .ensures) (sym (entry-at (a .write) (a .bytes .now) (a .at)))
+    rw (c .before .before .before .number-at .ensures .0, c .before .before .byte-at .ensures, c .before .extra-at .ensures, c .extra-at2 .ensures) (sym (entry-at (a .write) (a .bytes .now) (a .at)))
 
 pub entry-at-spec : {M : Type 1} → statement M
 entry-at-spec =
@@ -37,8 +40,9 @@ entry-at-spec =
     number-at-requires
     add-byte-at
     byte-at-requires
-    add-priority-at
-    priority-at-requires
-    cast-entry
-    entry-requires
+    add-extra-at
+    extra-at-requires
+    add-extra-at-2
+    extra-at-requires-2
+    cast-t9
     returns)

@@ -23,8 +23,8 @@ used-requires c κs = search needs
 sizes-fit-requires : tie.Need-sizes-fit-requires
 sizes-fit-requires c κs = search needs
 
-unranked-requires : tie.Need-unranked-requires
-unranked-requires c κs = search needs
+all-plain-requires : tie.Need-all-plain-requires
+all-plain-requires c κs = search needs
 
 returns-2 : tie.Need-returns-2
 returns-2 c = let s = c .before .before .before .before .before .before .before .args .s in
@@ -35,7 +35,7 @@ returns-2 c = let s = c .before .before .before .before .before .before .before 
     let same : take (used .result) (s .reads .items) ≡ entriesOf (s .reads) = take-used (used .result) (s .reads .len) (s .reads .items) (used .ensures .0) in
     let all-placed : hasPlaces s ≡ true = sym (had .0) ∙ places in
     let reads : viewOf s .reads ≡ entriesOf (s .reads) = ap (λ v. v .reads) seen in
-    (sym (form-had s ∙ rw (all-placed, reads, c .before .sizes-fit .ensures, c .unranked .ensures, same)), λ h. seen)
+    (sym (form-had s ∙ rw (all-placed, reads, c .before .sizes-fit .ensures, c .all-plain .ensures, same)), λ h. seen)
 
 pub has-form-spec : {M : Type 1} → statement M
 has-form-spec =
@@ -45,5 +45,5 @@ has-form-spec =
     returns
     used-requires
     sizes-fit-requires
-    unranked-requires
+    all-plain-requires
     returns-2)

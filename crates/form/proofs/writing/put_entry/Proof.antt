@@ -1,6 +1,6 @@
 -- `writing::put_entry` meets its contract.
 use Prim.Native.Nat.{_+_}
-use mathlib.Core.List.{[], _∷_}
+use mathlib.Core.Bool.{true, false}
 use mathlib.Core.Path.{_≡_}
 use native.Mathlib.Omega.{arith}
 use borrow.Author.Needs.{needs}
@@ -35,26 +35,39 @@ put-number-requires-3 : tie.Need-put-number-requires-3
 unfolding width entryWidths
 put-number-requires-3 c κs = let room = rw (c .before .before .if1 .taken) at (c .before .before .before .before .before .before .before .before .before .before .before .before .before .before .pre) in omega (arith, room)
 
+add-put-number-3 : tie.Need-add-put-number-3
+add-put-number-3 c = search needs
+
+mark-requires : tie.Need-mark-requires
+mark-requires c κs = search needs
+
+put-number-requires-4 : tie.Need-put-number-requires-4
+unfolding width entryWidths
+put-number-requires-4 c κs = let room = rw (c .before .before .before .before .before .before .before .if1 .taken) at (c .before .before .before .before .before .before .before .before .before .before .before .before .before .before .before .before .before .before .before .pre) in omega (arith, room)
+
 same-length : tie.Need-same-length
 same-length c = search needs
 
 returns : tie.Need-returns
 unfolding width entryWidths entryNumbers
-returns c = let a = c .before .before .before .before .before .before .before .before .before .before .before .before .before .before .before .before .before .args in
-    let e = a .e in
+returns c =
+    let a = c .before .before .before .before .before .before .before .before .before .before .before .before .before .before .before .before .before .before .before .before .before .before .args in
     let third : a .at + 3 ≡ (a .at + 2) + 1 = omega arith in
-    rw (c .before .before .before .before .before .if1 .taken, c .before .before .put-number3 .ensures, third, c .before .before .before .before .before .before .before .before .put-number2 .ensures, c .before .before .before .before .before .before .before .before .before .before .before .before .before .put-number .ensures)
-    (row-laid (2 ∷ 1 ∷ 1 ∷ []) (e .back ∷ e .cache ∷ e .priority ∷ []) (a .out .now) (a .at) (let room = rw (c .before .before .before .before .before .if1 .taken) at (c .before .before .before .before .before .before .before .before .before .before .before .before .before .before .before .before .before .pre) in omega (arith, room)))
+    let fourth : a .at + 4 ≡ ((a .at + 2) + 1) + 1 = omega arith in
+    let room = rw (c .before .before .before .before .before .before .before .before .before .before .if1 .taken) at (c .before .before .before .before .before .before .before .before .before .before .before .before .before .before .before .before .before .before .before .before .before .before .pre) in
+    rw (c .before .before .before .before .before .before .before .before .before .before .if1 .taken, c .before .before .put-number4 .ensures, c .before .before .before .mark .ensures, c .before .before .before .before .before .before .before .put-number3 .ensures, fourth, third, c .before .before .before .before .before .before .before .before .before .before .before .before .before .put-number2 .ensures, c .before .before .before .before .before .before .before .before .before .before .before .before .before .before .before .before .before .before .put-number .ensures)
+    (row-laid (entryWidths true) (entryNumbers true (a .e)) (a .out .now) (a .at) room)
 
 same-length-2 : tie.Need-same-length-2
 same-length-2 c = search needs
 
 returns-2 : tie.Need-returns-2
 unfolding width entryWidths entryNumbers
-returns-2 c = let a = c .before .before .before .before .before .before .before .before .before .before .before .before .args in
-    let e = a .e in
+returns-2 c =
+    let a = c .before .before .before .before .before .before .before .before .before .before .before .before .args in
+    let room = rw (c .if1 .left) at (c .before .before .before .before .before .before .before .before .before .before .before .before .pre) in
     rw (c .if1 .left, c .before .before .before .put-number2 .ensures, c .before .before .before .before .before .before .before .before .put-number .ensures)
-    (row-laid (2 ∷ 1 ∷ []) (e .back ∷ e .cache ∷ []) (a .out .now) (a .at) (let room = rw (c .if1 .left) at (c .before .before .before .before .before .before .before .before .before .before .before .before .pre) in omega (arith, room)))
+    (row-laid (entryWidths false) (entryNumbers false (a .e)) (a .out .now) (a .at) room)
 
 pub put-entry-spec : {M : Type 1} → statement M
 put-entry-spec =
@@ -68,6 +81,9 @@ put-entry-spec =
     add-put-number-2
     cast-put-number-3
     put-number-requires-3
+    add-put-number-3
+    mark-requires
+    put-number-requires-4
     same-length
     returns
     same-length-2
