@@ -34,7 +34,8 @@ same-length-3 c = search needs
 returns-2 : tie.Need-returns-2
 returns-2 c = let start = c .before .before .before .before .before .before .before .before .before .before .before .before .before .before .before in
     let a = start .args in
-    (c .before .before .before .before .before .before .put-out .ensures .0 ∙ unmarked-evict (placesOf (a .s)) (a .b) (start .pre .1 .0) (a .s .sizes) (running (a .flash .now) (a .spare .now) (a .disk .now) (a .meter)) (sym (c .before .before .before .before .before .before .before .before .before .before .before .is-marked .ensures) ∙ c .before .before .before .before .before .before .before .before .before .before .if1 .left), c .before .before .before .before .before .before .put-out .ensures .1)
+    let unmarked = sym (c .before .before .before .before .before .before .before .before .before .before .before .is-marked .ensures) ∙ c .before .before .before .before .before .before .before .before .before .before .if1 .left in
+    (rw (← unmarked-evict (placesOf (a .s)) (a .b) (start .pre .1 .0) (a .s .sizes) (running (a .flash .now) (a .spare .now) (a .disk .now) (a .meter)) unmarked) (c .before .before .before .before .before .before .put-out .ensures .0), c .before .before .before .before .before .before .put-out .ensures .1)
 
 pub evict-spec : {M : Type 1} → statement M
 evict-spec =

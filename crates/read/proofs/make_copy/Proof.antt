@@ -24,28 +24,13 @@ set-mark-requires : tie.Need-set-mark-requires
 set-mark-requires c κs = search needs
 
 same-length : tie.Need-same-length
-same-length c =
-    let p = c .before .before .before .before .before .before .before .before .before .before .before .before .before .before .before .before .before .before .before .before .before .before .before .before .before .before .before .before .before .pre in
-    let a = c .before .before .before .before .before .before .before .before .before .before .before .before .before .before .before .before .before .before .before .before .before .before .before .before .before .before .before .before .before .args in
-    let left = left-placed (placesOf (a .s)) (p .1 .0) (p .1 .1) (a .b) (p .1 .2) (running (a .flash .now) (a .spare .now) (a .disk .now) (a .meter)) (c .before .before .before .before .before .before .before .before .before .before .before .before .before .before .before .before .before .before .before .before .make-place .ensures .0) in
-    let lent = rw (left .sizes) at (c .before .before .before .before .before .before .before .before .copy .ensures .1) in
-    omega (arith, lent .flash-length, p .0 .flash-length)
+same-length c = omega (arith, c .before .before .before .before .before .before .before .flash2 .given, c .before .before .before .before .before .before .before .before .before .before .before .before .before .before .before .before .before .before .before .flash .given)
 
 same-length-2 : tie.Need-same-length-2
-same-length-2 c =
-    let p = c .before .before .before .before .before .before .before .before .before .before .before .before .before .before .before .before .before .before .before .before .before .before .before .before .before .before .before .before .before .pre in
-    let a = c .before .before .before .before .before .before .before .before .before .before .before .before .before .before .before .before .before .before .before .before .before .before .before .before .before .before .before .before .before .args in
-    let left = left-placed (placesOf (a .s)) (p .1 .0) (p .1 .1) (a .b) (p .1 .2) (running (a .flash .now) (a .spare .now) (a .disk .now) (a .meter)) (c .before .before .before .before .before .before .before .before .before .before .before .before .before .before .before .before .before .before .before .before .make-place .ensures .0) in
-    let lent = rw (left .sizes) at (c .before .before .before .before .before .before .before .before .copy .ensures .1) in
-    omega (arith, lent .spare-length, p .0 .spare-length)
+same-length-2 c = omega (arith, c .before .before .before .before .before .spare2 .given, c .before .before .before .before .before .before .before .before .before .before .before .before .before .before .before .before .before .spare .given)
 
 same-length-3 : tie.Need-same-length-3
-same-length-3 c =
-    let p = c .before .before .before .before .before .before .before .before .before .before .before .before .before .before .before .before .before .before .before .before .before .before .before .before .before .before .before .before .before .pre in
-    let a = c .before .before .before .before .before .before .before .before .before .before .before .before .before .before .before .before .before .before .before .before .before .before .before .before .before .before .before .before .before .args in
-    let left = left-placed (placesOf (a .s)) (p .1 .0) (p .1 .1) (a .b) (p .1 .2) (running (a .flash .now) (a .spare .now) (a .disk .now) (a .meter)) (c .before .before .before .before .before .before .before .before .before .before .before .before .before .before .before .before .before .before .before .before .make-place .ensures .0) in
-    let lent = rw (left .sizes) at (c .before .before .before .before .before .before .before .before .copy .ensures .1) in
-    omega (arith, lent .disk-length, p .0 .disk-length)
+same-length-3 c = omega (arith, c .before .before .before .disk2 .given, c .before .before .before .before .before .before .before .before .before .before .before .before .before .before .before .disk .given)
 
 returns : tie.Need-returns
 returns c = let start = c .before .before .before .before .before .before .before .before .before .before .before .before .before .before .before .before .before .before .before .before .before .before .before .before .before .before .before .before .before in
