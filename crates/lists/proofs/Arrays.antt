@@ -2,12 +2,12 @@
 use Prim.Native.Nat.{ℕ, zero, suc, _+_, _-_, _≤_, _<_}
 use mathlib.Core.Path.{_≡_, refl, sym, ap, _∙_}
 use mathlib.Core.Bool.{Bool, true, false, _&&_, and-assoc, and-true}
-use mathlib.Core.List.{List, [], _∷_, _++_, map, append-nil}
+use mathlib.Core.List.{List, [], _∷_, _++_, map, append-nil, append-assoc}
 use native.Mathlib.Numerals.{add-one}
 use native.Mathlib.Nat.{zero-add, zero-sub, suc-sub-suc, sub-zero}
 use native.Mathlib.Omega.{arith}
-use lib.ListN.{length, take, drop, getD, set, replicate, length-append, length-take, length-map, length-replicate, drop-of-length-le}
-use lib.Seq.{take-suc, take-suc-set, take-all, take-at, take-nil, slice-cons, length-take-le, paste, paste-suc}
+use lib.ListN.{length, take, drop, getD, set, replicate, length-append, length-take, length-map, length-replicate, replicate-append-replicate, drop-of-length-le}
+use lib.Seq.{take-suc, take-suc-set, take-all, take-at, take-nil, slice-cons, length-take-le, paste, paste-suc, drop-paste, getD-drop}
 use lib.Dec.{eqb, eqb·suc-zero}
 use Rattle.lists.specs.Lists.{if_then_else_, all, keep, empty}
 use Rattle.lists.specs.Arrays.{joined, padded}
@@ -58,6 +58,16 @@ module _ {A : Type 0} where
   pub pasted-front : (d s : List A) (n : ℕ) → n ≤ length s → take n (paste d 0 s n) ≡ take n s
   pasted-front d s n h = take-at (take n s) (drop (0 + n) d) n (length-take-le n s h)
 
+  -- a list of which each of the first i took the next one's element: behind these each is still its own
+  pub shifted-behind : (l : List A) (i : ℕ) (d : A) → i < length (drop 1 l) → getD (paste l 0 (drop 1 l) i) (i + 1) d ≡ getD (drop 1 l) i d
+  shifted-behind l i d h =
+      let moved = paste l 0 (drop 1 l) i in
+      ap (λ (k : ℕ). getD moved k d) (omega arith)
+      ∙ (sym (getD-drop (0 + i) moved 1 d)
+      ∙ (ap (λ (m : List A). getD m 1 d) (drop-paste l 0 (drop 1 l) i (omega arith) (omega arith))
+      ∙ (getD-drop (0 + i) l 1 d
+      ∙ (ap (λ (k : ℕ). getD l k d) (omega arith) ∙ sym (getD-drop 1 l i d)))))
+
   pub pasted-padded : (c n : ℕ) (d : A) (l : List A) → n ≤ length l → paste (replicate c d) 0 l n ≡ padded c d (take n l)
   unfolding padded
   pasted-padded c n d l h = rw (length-take-le n l h, zero-add n, drop-replicate c n d)
@@ -82,6 +92,15 @@ module _ {A : Type 0} where
   pub padded-view : (c : ℕ) (d : A) (l : List A) → take (length l) (padded c d l) ≡ l
   unfolding padded
   padded-view c d l = take-at l (replicate (c - length l) d) (length l) refl
+
+  -- one place more, with d in it
+  pub padded-more : (i : ℕ) (d : A) (l a : List A) → length l ≤ i → i < length a → take i a ≡ padded i d l → take (i + 1) (set a i d) ≡ padded (i + 1) d l
+  unfolding padded
+  padded-more i d l a h k e =
+      let more : i + 1 - length l ≡ i - length l + 1 = omega arith in
+      written i a d k
+      ∙ (ap (λ m. m ++ (d ∷ [])) e
+      ∙ (append-assoc l (replicate (i - length l) d) (d ∷ []) ∙ ap (λ m. l ++ m) (replicate-append-replicate (i - length l) 1 d ∙ ap (λ n. replicate n d) (sym more))))
 
   pub empty-length : (l : List A) → empty l ≡ eqb (length l) 0
   unfolding empty

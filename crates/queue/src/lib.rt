@@ -3,7 +3,7 @@ use model::Entry;
 ghost use mathlib.Core.Path.{_≡_};
 ghost use mathlib.Core.Bool.{true};
 ghost use mathlib.Core.List.{[], _∷_, map};
-ghost use Prim.Native.Nat.{_+_, _≤_};
+ghost use Prim.Native.Nat.{_+_, _≤_, _<_};
 ghost use lib.ListN.{length, take, drop, getD};
 ghost use lib.Dec.{leb};
 ghost use lib.Seq.{paste};
@@ -98,7 +98,7 @@ impl Queue {
         if n == 0 {
             return self;
         }
-        let next = copied(items, items, 1, n - 1);
+        let next = shifted(items, n - 1);
         Queue {
             items: next,
             len: n - 1,
@@ -111,9 +111,7 @@ impl Queue {
     {
         let n = self.used();
         let items = self.items;
-        let none = Queue::empty();
-        let blank = none.items;
-        let next = copied(blank, items, 0, n);
+        let next = blanked(items, n);
         Queue {
             items: next,
             len: n,
@@ -236,15 +234,30 @@ impl Queue {
     }
 }
 
-// `into` with n entries of `from`, taken from the index `start` on, in its first places.
-fn copied(into: [Entry; 64], from: [Entry; 64], start: usize, n: usize) -> [Entry; 64]
-    requires { ⌜ start + n ≤ 64 ⌝ }
-    ensures { λ r. ⌜ r ≡ paste into 0 (drop start from) n ⌝ }
+// Each of the first n takes the next one's entry. Within one array: two would be copied.
+fn shifted(items: [Entry; 64], n: usize) -> [Entry; 64]
+    requires { ⌜ n < 64 ⌝ }
+    ensures { λ r. ⌜ r ≡ paste items 0 (drop 1 items) n ⌝ }
 {
-    let mut a = into;
+    let mut a = items;
     let mut i = 0;
     while i < n {
-        a[i] = from[start + i];
+        a[i] = a[i + 1];
+        i += 1;
+    }
+    a
+}
+
+// The first n, and zeros behind them. Within one array, too.
+fn blanked(items: [Entry; 64], n: usize) -> [Entry; 64]
+    requires { ⌜ n ≤ 64 ⌝ }
+    ensures { λ r. ⌜ r ≡ padded 64 noEntry (take n items) ⌝ }
+{
+    let none = entry(0, 0, 0);
+    let mut a = items;
+    let mut i = n;
+    while i < 64 {
+        a[i] = none;
         i += 1;
     }
     a

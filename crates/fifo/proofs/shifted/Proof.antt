@@ -1,23 +1,12 @@
-use Prim.Native.Nat.{ℕ, _+_, _≤_, _<_, _-_}
-use mathlib.Core.List.{List}
-use mathlib.Core.Path.{_≡_, sym, ap, _∙_}
+use Prim.Native.Nat.{_≤_, _<_, _-_}
+use mathlib.Core.Path.{_≡_, _∙_}
 use native.Mathlib.Omega.{arith}
-use lib.Seq.{paste, paste-zero, drop-paste, getD-drop}
-use lib.ListN.{length, drop, getD, length-drop, length-set}
+use lib.Seq.{paste, paste-zero}
+use lib.ListN.{length, drop, length-drop, length-set}
 use borrow.Author.Needs.{needs}
-use Rattle.lists.proofs.Arrays.{filled-more}
+use Rattle.lists.proofs.Arrays.{filled-more, shifted-behind}
 use Rattle.fifo.proofs.shifted.Statement.{statement}
 use Rattle.fifo.proofs.shifted.Tie as tie
-
--- the item behind those that were moved is still its own
-behind : (l : List ℕ) (i : ℕ) → i < length (drop 1 l) → getD (paste l 0 (drop 1 l) i) (i + 1) 0 ≡ getD (drop 1 l) i 0
-behind l i h =
-    let moved = paste l 0 (drop 1 l) i in
-    ap (λ (k : ℕ). getD moved k 0) (omega arith)
-    ∙ (sym (getD-drop (0 + i) moved 1 0)
-    ∙ (ap (λ (m : List ℕ). getD m 1 0) (drop-paste l 0 (drop 1 l) i (omega arith) (omega arith))
-    ∙ (getD-drop (0 + i) l 1 0
-    ∙ (ap (λ (k : ℕ). getD l k 0) (omega arith) ∙ sym (getD-drop 1 l i 0)))))
 
 abbrev Inv-loop : tie.InvT-loop
 Inv-loop n a₀ i₀ a i = (i ≤ n) × (a ≡ paste a₀ 0 (drop 1 a₀) i) × (length a₀ ≡ 256) × (length a ≡ 256)
@@ -47,7 +36,7 @@ loop-again : tie.Need-loop-again Inv-loop μ-loop
 loop-again c = let l = c .before .loop in
     let x = c .before .before .args in
     let s : l .i < length (drop 1 (x .items)) = simp length-drop (omega arith) in
-    (search needs, rw (l .inv .1, behind (x .items) (l .i) s) (filled-more (x .items) (drop 1 (x .items)) (l .i) 0 (omega arith) s), l .inv .2, rw length-set (l .inv .3))
+    (search needs, rw (l .inv .1, shifted-behind (x .items) (l .i) 0 s) (filled-more (x .items) (drop 1 (x .items)) (l .i) 0 (omega arith) s), l .inv .2, rw length-set (l .inv .3))
 
 returns : tie.Need-returns Inv-loop μ-loop
 returns c = let e : c .before .loop .i ≡ c .before .before .args .n = omega arith in c .before .loop .inv .1 ∙ rw e

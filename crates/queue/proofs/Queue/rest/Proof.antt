@@ -16,11 +16,11 @@ returns c = let q = c .before .before .before .args .self in
     let h : length (entriesOf q) ≤ 0 = omega arith in
     drop-of-length-le (entriesOf q) {i = 0} h ∙ sym (drop-of-length-le (entriesOf q) {i = 1} (omega arith))
 
-sub-copied : tie.Need-sub-copied
-sub-copied c = search needs
+sub-shifted : tie.Need-sub-shifted
+sub-shifted c = search needs
 
-copied-requires : tie.Need-copied-requires
-copied-requires c κs = search needs
+shifted-requires : tie.Need-shifted-requires
+shifted-requires c κs = search needs
 
 sub-t6 : tie.Need-sub-t6
 sub-t6 c = search needs
@@ -30,7 +30,7 @@ returns-2 c = let q = c .before .before .before .before .args .self in
     let u = c .before .before .before .used in
     let n : length (q .items) ≡ 64 = search (needs, length-mapped) in
     let h : u .result - 1 ≤ length (drop 1 (q .items)) = simp length-drop (omega arith) in
-    rw (c .copied .ensures) (pasted-front (q .items) (drop 1 (q .items)) (u .result - 1) h ∙ (sym (drop-take 1 (u .result) (q .items)) ∙ ap (drop 1) (take-used (u .result) (q .len) (q .items) (u .ensures .0))))
+    rw (c .shifted .ensures) (pasted-front (q .items) (drop 1 (q .items)) (u .result - 1) h ∙ (sym (drop-take 1 (u .result) (q .items)) ∙ ap (drop 1) (take-used (u .result) (q .len) (q .items) (u .ensures .0))))
 
 pub rest-spec : {M : Type 1} → statement M
-rest-spec = tie.close (tie.spec used-requires returns sub-copied copied-requires sub-t6 returns-2)
+rest-spec = tie.close (tie.spec used-requires returns sub-shifted shifted-requires sub-t6 returns-2)
