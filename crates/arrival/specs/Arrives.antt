@@ -1,9 +1,11 @@
 -- When a log of n bytes has a place.
 use Prim.Native.Nat.{ℕ, _≤_, _<_}
+use mathlib.Core.Path.{_≡_}
+use mathlib.Core.Bool.{true}
 use mathlib.Core.List.{List}
 use lib.ListN.{length}
 use Rattle.model.specs.Sizes.{bucketSize, pagesFor}
-use Rattle.model.specs.Image.{blanks}
+use Rattle.model.specs.Image.{used, blanks}
 use Rattle.model.specs.State.{State, cacheOf}
 use Rattle.model.proofs.Limits.{Limits}
 use Rattle.image.specs.Chip.{spareOnly}
@@ -13,6 +15,7 @@ use Rattle.copying.specs.Fresh.{Fresh}
 pub record Appends (s : State) (b n : ℕ) (spare : List ℕ) : Type 0 where
   pub limits : Limits (s .sizes)
   pub bucket : cacheOf b (s .writes) < s .sizes .c
+  pub programmed : used (s .sizes) (spareOnly spare) (cacheOf b (s .writes)) ≡ true
   pub some : 1 ≤ n
   pub room : n ≤ bucketSize (s .sizes)
   pub pages : pagesFor (s .sizes) n ≤ blanks (s .sizes) (spareOnly spare) (cacheOf b (s .writes))

@@ -52,7 +52,7 @@ pub fn append_log(
     let z = s.sizes;
     let bucket = s.writes.cache_of(b) as usize;
     let blanks = image::blanks(z, bucket, spare);
-    let epoch = image::epoch_of(z, bucket, spare);
+    let epoch = image::used_epoch(z, bucket, spare);
     let pages = geometry::pages_for(z, bytes.len());
     let first = z.p - blanks;
     let priority = (blanks - pages) as u8;

@@ -8,7 +8,7 @@ use native.Mathlib.Omega.{arith}
 use lib.ListN.{length}
 use lib.Dec.{leb}
 use borrow.Author.Tests.{leb-true, leb-false}
-use Rattle.lists.proofs.Tests.{and-right, true-or-false}
+use Rattle.lists.proofs.Tests.{and-left, and-right, true-or-false}
 use Rattle.model.specs.declared.Sizes.{Sizes}
 use Rattle.model.specs.declared.Victim.{Victim}
 use Rattle.model.specs.declared.Victim.the-variants.{Nobody, Bucket}
@@ -31,7 +31,11 @@ use Rattle.write.specs.Writes.{Yields, Writes}
 pub yields-evicts : {s : State} {spare : List ℕ} → Yields s spare → (k : ℕ) → holds k (s .writes) ≡ true → Evicts s k
 yields-evicts y k h = record { ready = y .ready; back = y .backs k h; held = h; epoch = omega (arith, y .epochs) }
 
--- b's Write bucket has enough blank pages
+-- b has a Write bucket, with enough blank pages
+pub fit-held : (z : Sizes) (d : Device) (b n : ℕ) (s : State) → fits z d b n s ≡ true → holds b (s .writes) ≡ true
+unfolding fits
+fit-held z d b n s h = and-left (holds b (s .writes)) (leb n (blanks z d (cacheOf b (s .writes)))) h
+
 pub fit-pages : (z : Sizes) (d : Device) (b n : ℕ) (s : State) → fits z d b n s ≡ true → n ≤ blanks z d (cacheOf b (s .writes))
 unfolding fits
 fit-pages z d b n s h =

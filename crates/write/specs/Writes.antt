@@ -4,8 +4,8 @@ use mathlib.Core.Path.{_≡_}
 use mathlib.Core.Bool.{true}
 use mathlib.Core.List.{List}
 use Rattle.model.specs.Sizes.{bucketSize}
-use Rattle.model.specs.Image.{wellFormed}
-use Rattle.model.specs.State.{State, holds}
+use Rattle.model.specs.Image.{wellFormed, used}
+use Rattle.model.specs.State.{State, holds, cacheOf}
 use Rattle.model.specs.Operations.{lastEpoch}
 use Rattle.image.specs.Chip.{spareOnly}
 use Rattle.steps.specs.Ready.{Ready}
@@ -17,8 +17,9 @@ pub record Yields (s : State) (spare : List ℕ) : Type 0 where
   pub backs : (k : ℕ) → holds k (s .writes) ≡ true → k < s .sizes .b
   pub epochs : s .next ≤ lastEpoch
 
--- n bytes fit into a bucket
+-- n bytes fit into a bucket, and a Write bucket that they may go to has a programmed page
 pub record Writes (s : State) (n : ℕ) (spare : List ℕ) : Type 0 where
   pub yields : Yields s spare
+  pub programmed : (k : ℕ) → holds k (s .writes) ≡ true → used (s .sizes) (spareOnly spare) (cacheOf k (s .writes)) ≡ true
   pub some : 1 ≤ n
   pub room : n ≤ bucketSize (s .sizes)

@@ -20,8 +20,10 @@ cast-bucket c = search needs
 blanks-requires : tie.Need-blanks-requires
 blanks-requires c κs = search needs
 
-epoch-of-requires : tie.Need-epoch-of-requires
-epoch-of-requires c κs = search needs
+used-epoch-requires : tie.Need-used-epoch-requires
+used-epoch-requires c κs =
+    let start = c .before .before .before .before .before .before .before .before .before in
+    (search needs, (search needs, rw (c .before .before .before .cache-of .ensures) (start .pre .1 .programmed)))
 
 pages-for-requires : tie.Need-pages-for-requires
 unfolding bucketSize
@@ -79,12 +81,12 @@ returns : tie.Need-returns
 returns c =
     let cache-of = c .before .before .before .before .before .before .before .before .before .before .before .before .before .before .before .before .before .cache-of in
     let blanks-then = c .before .before .before .before .before .before .before .before .before .before .before .before .before .before .before .blanks in
-    let epoch-of = c .before .before .before .before .before .before .before .before .before .before .before .before .before .epoch-of in
+    let epoch = c .before .before .before .before .before .before .before .before .before .before .before .before .before .used-epoch in
     let pages-for = c .before .before .before .before .before .before .before .before .before .before .before .before .pages-for in
     let a = c .before .before .before .before .before .before .before .before .before .before .before .before .before .before .before .before .before .before .before .before .before .before .before .args in
     let written = c .before .before .before .before .before .before .before .program-log .ensures in (
       rw (written .0, c .accept .ensures)
-          (appended-by (a .s .sizes) (a .b) (a .offset) (a .bytes .now) (placesOf (a .s)) (running (a .flash .now) (a .spare .now) (a .disk .now) (a .meter)) (cache-of .result) (blanks-then .result) (epoch-of .result) (pages-for .result) (cache-of .ensures) (blanks-then .ensures) (epoch-of .ensures) (pages-for .ensures)),
+          (appended-by (a .s .sizes) (a .b) (a .offset) (a .bytes .now) (placesOf (a .s)) (running (a .flash .now) (a .spare .now) (a .disk .now) (a .meter)) (cache-of .result) (blanks-then .result) (epoch .result) (pages-for .result) (cache-of .ensures) (blanks-then .ensures) (epoch .ensures) (pages-for .ensures)),
       written .1,
     )
 
@@ -95,7 +97,7 @@ append-log-spec =
     cache-of-requires
     cast-bucket
     blanks-requires
-    epoch-of-requires
+    used-epoch-requires
     pages-for-requires
     sub-first
     sub-priority

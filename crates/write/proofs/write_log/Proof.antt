@@ -1,4 +1,4 @@
-use Rattle.write.proofs.Yielded.{fit-pages, way-left, written-by, write-starts}
+use Rattle.write.proofs.Yielded.{fit-held, fit-pages, way-left, written-by, write-starts}
 use Rattle.arrival.proofs.Arrived.{same-fits}
 use Rattle.steps.proofs.Kept.{body-some}
 use Rattle.steps.proofs.Inside.{cache-inside}
@@ -34,14 +34,16 @@ append-log-requires c κs = let start = c .before .before .before .before .befor
     let a = start .args in
     let writes = start .pre .1 in
     let orderly = writes .yields .ready .orderly in
-    let pages = pagesFor (a .s .sizes) (length (a .bytes .now)) in (
+    let pages = pagesFor (a .s .sizes) (length (a .bytes .now)) in
+    let fits = rw (c .before .before .before .before .fits2 .ensures) at (c .before .before .before .if1 .taken) in (
       start .pre .0,
       record {
         limits = orderly .limits;
         bucket = on-chip (a .s .sizes) _ (cache-inside (body (a .s .sizes)) (a .b) (entriesOf (a .s .writes)) (orderly .writes) (body-some orderly));
+        programmed = writes .programmed (a .b) (fit-held (a .s .sizes) (spareOnly (a .spare .now)) (a .b) pages (placesOf (a .s)) fits);
         some = writes .some;
         room = writes .room;
-        pages = fit-pages (a .s .sizes) (spareOnly (a .spare .now)) (a .b) pages (placesOf (a .s)) (rw (c .before .before .before .before .fits2 .ensures) at (c .before .before .before .if1 .taken));
+        pages = fit-pages (a .s .sizes) (spareOnly (a .spare .now)) (a .b) pages (placesOf (a .s)) fits;
       },
     )
 
