@@ -77,10 +77,6 @@ module _ {A : Type 0} where
       drop-replicate zero (suc n) d = rw zero-sub
       drop-replicate (suc c) (suc n) d = rw suc-sub-suc (drop-replicate c n d)
 
-  pub padded-none : (c : ℕ) (d : A) → padded c d [] ≡ replicate c d
-  unfolding padded
-  padded-none c d = rw sub-zero
-
   pub padded-whole : (c : ℕ) (d : A) (l : List A) → c ≤ length l → padded c d l ≡ l
   unfolding padded
   padded-whole c d l h = let e : c - length l ≡ 0 = omega arith in rw (e, append-nil l)
