@@ -6,7 +6,7 @@ from inputs.images import any_logs, fill, made_up, odd_blanks, queue_up, some_ep
 from inputs.lists import honest_situation, recovery
 from inputs.probes import ON_CHIP, RUNNING, good_call, page_look, show_all, show_something, some_units, write
 from inputs.rich import any_copy, rich_sizes
-from inputs.situation import format_line, formatted
+from inputs.situation import format_line, formatted, show_page
 
 
 def changed(rng, before, situation, change, ops):
@@ -42,6 +42,22 @@ def any_calls(rng, z, wanted=()):
         if rng.random() < 0.3:
             lines.append(show_something(rng, z))
     return lines + (recovery(rng, z) if rng.random() < 0.5 else ["11"])
+
+
+def log_by_count(rng, rich):
+    """A log that fits the kept blank pages and not the priority; they are shown, and put back."""
+    forged, z = rich.situation.copy(), rich.situation.sizes
+    roomy = [entry for entry in forged.queue("writes") if entry["blank"]]
+    if not roomy:
+        return []
+    entry = rng.choice(roomy)
+    pages = rng.randint(1, entry["blank"])
+    entry["priority"] = rng.randrange(pages)
+    lines = rich.situation.lines_to(forged) + [write(entry["back_end"], 0, rng.randbytes(pages * z.S)), "11"]
+    places = [(entry["bucket"], page) for page in range(z.P - entry["blank"], z.P)]
+    # Whatever the log left there is not what is put back.
+    forged.pages.update(dict.fromkeys(places))
+    return lines + [show_page(*place) for place in places] + forged.lines_to(rich.situation)
 
 
 def state(rng, ask):

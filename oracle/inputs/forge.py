@@ -14,6 +14,13 @@ def forge_pages(rng, situation):
     """Changes one page or bucket, or several."""
     for _ in range(rng.choice([1, 1, 1, 2, 4])):
         rng.choice(PAGE_CHANGES)(rng, situation)
+    recounted(rng, situation)
+
+
+def recounted(rng, situation):
+    """The kept counts follow the chip, most often: a wrong one is all that calls would tell of."""
+    if rng.random() < 0.8:
+        situation.recount()
 
 
 # Changes of a state
@@ -71,6 +78,14 @@ def a_record_mark(rng, situation):
         entry["mark"] = rng.choice([entry["mark"] ^ 1] * 6 + [2, 255])
 
 
+def a_kept_count(rng, situation):
+    """One too low or too high, the priority, the pages in use, a bound."""
+    if situation.queue("writes"):
+        entry, pages = rng.choice(situation.queue("writes")), situation.sizes.P
+        now = entry["blank"]
+        entry["blank"] = rng.choice([now - 1, now + 1, entry["priority"], pages - now, 0, pages, 255]) % 256
+
+
 def swapped(rng, situation):
     queue = some_queue(rng, situation, 2)
     if queue:
@@ -109,6 +124,7 @@ def moved(rng, situation):
     back_end = on_chip["back_end"] if on_chip else rng.randrange(situation.sizes.B)
     new = entry_for(to, entry["bucket"], back_end, rng.randint(0, situation.sizes.P), rng.choice([0, 0, 1]))
     situation.queue(to).insert(rng.randint(0, len(situation.queue(to))), new)
+    recounted(rng, situation)
 
 
 def traded(rng, situation):
@@ -117,6 +133,7 @@ def traded(rng, situation):
     if len(entries) > 1:
         one, two = rng.sample(entries, 2)
         one["bucket"], two["bucket"] = two["bucket"], one["bucket"]
+        recounted(rng, situation)
 
 
 def some_queue(rng, situation, least):
@@ -127,7 +144,8 @@ def some_queue(rng, situation, least):
 
 
 STATE_CHANGES = [a_size, a_limit, running_mark, the_count, the_epoch, the_epoch, an_entry, an_entry, an_entry,
-                 a_record_mark, a_record_mark, swapped, swapped, tied, doubled, removed, moved, moved, traded]
+                 a_record_mark, a_record_mark, a_kept_count, a_kept_count, swapped, swapped, tied, doubled, removed,
+                 moved, moved, traded]
 
 
 # Changes of pages

@@ -5,7 +5,7 @@ STATE = SIZES + [("running", 1), ("count", 1), ("epoch", 8)]
 # For each queue: the width of its count, the most entries, the fields of an entry.
 QUEUES = {
     "reads": (1, 64, [("back_end", 2), ("bucket", 1)]),
-    "writes": (1, 64, [("back_end", 2), ("bucket", 1), ("priority", 1), ("mark", 1)]),
+    "writes": (1, 64, [("back_end", 2), ("bucket", 1), ("priority", 1), ("mark", 1), ("blank", 1)]),
     "gc": (2, 256, [("bucket", 1)]),
     "free": (2, 256, [("bucket", 1)]),
 }

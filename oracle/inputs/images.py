@@ -96,6 +96,7 @@ def queue_up(rng, situation):
             queue = "gc"
         queues[queue].append(entry_for(queue, bucket, back_end, rng.choice([0, 0, 1, rng.randint(0, z.P)])))
     situation.state.queues = queues
+    situation.recount()
     mark_some(rng, situation)
 
 
@@ -117,6 +118,7 @@ def wanted_queue(situation, bucket):
     return ("reads" if len(spares) == situation.sizes.P else "gc"), back_end
 
 
-def entry_for(queue, bucket, back_end, priority, mark=0):
-    values = {"bucket": bucket, "back_end": back_end, "priority": priority, "mark": mark}
+def entry_for(queue, bucket, back_end, priority, mark=0, blank=0):
+    """An entry; a recount of its situation puts the blank pages right."""
+    values = {"bucket": bucket, "back_end": back_end, "priority": priority, "mark": mark, "blank": blank}
     return {name: values[name] for name, _ in QUEUES[queue][2]}

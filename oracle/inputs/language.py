@@ -63,7 +63,8 @@ def counts(rng, rich):
     queue = rng.choice(list(QUEUES))
     _, most, table = QUEUES[queue]
     length = rng.choice([0, most - 1, most, most, most + 1, most + 1, most + 40])
-    state.queues[queue] = [entry_for(queue, n % 256, rng.randrange(65536), rng.randrange(256), rng.choice([0, 1]))
+    state.queues[queue] = [entry_for(queue, n % 256, rng.randrange(65536), rng.randrange(256), rng.choice([0, 1]),
+                                     rng.randrange(256))
                            for n in range(length)]
     line = "10" + state.text()
     if rng.random() < 0.2:

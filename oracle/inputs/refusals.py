@@ -95,7 +95,8 @@ def spoil(rng, rich, s, numbers):
     if 4 in numbers:
         s.change(rich.buckets["short logs"], 0, zero=1)
     if 5 in numbers:
-        values["count"] = 16
+        fields, name = rng.choice([(values, "count"), (rng.choice(s.queue("writes")), "blank")])
+        fields[name] += 16
     if 8 in numbers:
         values["epoch"] = EPOCH_END - rng.choice([0, 1])
 

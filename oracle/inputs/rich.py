@@ -76,5 +76,6 @@ class Rich:
         for role, bucket in rng.sample(list(self.buckets.items()), len(self.buckets)):
             queue = ROLES[role][0]
             state.queues[queue].append(entry_for(queue, bucket, self.back_end(role), rng.randint(0, z.P)))
+        self.situation.recount()
         lowest = max(self.situation.epochs()) + 1
         state.values.update(count=rng.randrange(16), epoch=min(lowest + rng.randint(0, 3), EPOCH_END))

@@ -44,6 +44,12 @@ class Situation:
         """The pages of a bucket that are not blank."""
         return [page for page in range(self.sizes.P) if self.pages[bucket, page][0] != BLANK]
 
+    def recount(self):
+        """Each record of the write queue keeps the count of blank pages that its bucket has, if that is there."""
+        for entry in self.queue("writes"):
+            if entry["bucket"] < self.sizes.C:
+                entry["blank"] = self.sizes.P - len(self.used(entry["bucket"]))
+
     def epochs(self):
         """The epochs on the chip."""
         return [self.spare(bucket, 0)["epoch"] for bucket in range(self.sizes.C)

@@ -5,7 +5,7 @@ Each takes the generator, the rich situation and the copy of it that is changed.
 
 from functools import partial
 
-from inputs.images import EPOCH_END, any_log, entry_for
+from inputs.images import EPOCH_END, any_log, entry_for, mark_some
 from inputs.rich import ROLES
 
 
@@ -28,6 +28,7 @@ def moved(role, to, rng, rich, s):
     """A role's bucket in another queue, where there is room for it: no length depends on R and W."""
     s.queue(ROLES[role][0]).remove(entry_of(rich, s, role))
     s.queue(to).append(entry_for(to, rich.buckets[role], rich.back_end(role), rng.randint(0, s.sizes.P)))
+    s.recount()
     values = s.state.values
     values["R"] = max(values["R"], len(s.queue("reads")))
     values["W"] = max(values["W"], len(s.queue("writes")))
@@ -53,6 +54,7 @@ def read_twice(_, rich, s):
 
 def written_twice(_, rich, s):
     entry_of(rich, s, "over disk")["bucket"] = rich.buckets["second write"]
+    s.recount()
 
 
 def collected_twice(rng, rich, s):
@@ -140,6 +142,26 @@ def copy_not_queued(mark, rng, rich, s):
     moved("copy", "gc", rng, rich, s)
 
 
+# Kept blank pages
+
+def kept(value, rng, _, s):
+    """Another count in one record, marked or not, by P and the right one."""
+    mark_some(rng, s)
+    entry = rng.choice(s.queue("writes"))
+    entry["blank"] = value(s.sizes.P, entry["blank"]) % 256
+
+
+def kept_of_another(rng, _, s):
+    one, two = rng.sample(s.queue("writes"), 2)
+    one["blank"], two["blank"] = two["blank"], one["blank"]
+
+
+def halved(names, _, __, s):
+    """Half of the blank pages, as after a halving: in the priorities alone, which fits, or in the counts too."""
+    for entry in s.queue("writes"):
+        entry.update(dict.fromkeys(names, entry["blank"] // 2))
+
+
 # Numbers
 
 def priority(above, rng, _, s):
@@ -190,6 +212,10 @@ CLAUSES = [
     *(partial(moved, role, "free") for role in ("third copy", "short logs", "part of copy")),
     *(partial(marked, role) for role in ("over copy", "over disk")),
     *(partial(copy_not_queued, mark) for mark in (0, 1)),
+    *(partial(kept, value) for value in (
+        lambda pages, blank: blank - 1, lambda pages, blank: blank + 1, lambda pages, blank: pages - blank,
+        lambda pages, _: 0, lambda pages, _: pages, lambda pages, _: 255)),
+    kept_of_another, partial(halved, ["priority"]), partial(halved, ["priority", "blank"]),
     *(partial(priority, value) for value in (0, 1, 255)),
     *(partial(count, value) for value in (15, 16, 255)),
     *(partial(epoch, value) for value in (0, EPOCH_END, EPOCH_END + 1, 2 ** 63, 2 ** 64 - 1)),

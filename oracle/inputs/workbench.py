@@ -7,7 +7,7 @@ import random
 from functools import partial
 
 from inputs import page_clauses, refusals, state_clauses
-from inputs.changed import chip, state
+from inputs.changed import chip, log_by_count, state
 from inputs.driving import KINDS as DRIVING_KINDS
 from inputs.driving import Script
 from inputs.language import BOUNDS, MOST_DIGITS, before_format, long_line
@@ -30,7 +30,7 @@ def broken(clause, ops, rng, rich):
 
 CLAUSES = [*(partial(broken, clause, RUNNING) for clause in state_clauses.CLAUSES),
            *(partial(broken, clause, ON_CHIP) for clause in page_clauses.CLAUSES),
-           *refusals.LENGTHS, *[refusals.by_epochs] * 3, *[refusals.by_lengths] * 3]
+           *refusals.LENGTHS, *[refusals.by_epochs] * 3, *[refusals.by_lengths] * 3, *[log_by_count] * 3]
 REFUSALS = [*[refusals.several] * 60, *refusals.LIMITS, *[refusals.about_buffers] * 10,
             *[refusals.by_epochs] * 5, *[refusals.by_lengths] * 20]
 

@@ -44,6 +44,7 @@ impl State {
         look.kind == Kind::Write
             && look.back_end == entry.back_end
             && usize::from(entry.priority) <= self.sizes.bucket_pages
+            && entry.blank == look.blank_pages(&self.sizes)
             && (!entry.marked || self.holding(entry.back_end).copy.is_some())
     }
 }

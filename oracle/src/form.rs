@@ -51,7 +51,8 @@ fn write_entry<W: Way>(way: &mut W, entry: &mut WriteEntry) -> Result<(), Turned
     way.field(2, &mut entry.back_end)?;
     way.field(1, &mut entry.bucket)?;
     way.field(1, &mut entry.priority)?;
-    way.mark(&mut entry.marked)
+    way.mark(&mut entry.marked)?;
+    way.field(1, &mut entry.blank)
 }
 
 fn bucket<W: Way>(way: &mut W, bucket: &mut u8) -> Result<(), TurnedDown> {

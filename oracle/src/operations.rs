@@ -14,7 +14,7 @@ impl Call<'_> {
         let Room {
             bucket,
             epoch,
-            used,
+            blank,
         } = self.room_for_log(back_end, pages)?;
         let log = Log {
             kind: Kind::Write,
@@ -23,9 +23,10 @@ impl Call<'_> {
             offset,
             length: data.len(),
         };
+        let used = self.state.sizes.bucket_pages - blank;
         self.device.program_log(bucket, used, &log, data)?;
-        let blank = self.state.sizes.bucket_pages - used - pages;
-        self.state.set_write(back_end, bucket, blank as u8);
+        let left = (blank - pages) as u8;
+        self.state.set_write(back_end, bucket, left);
         self.state.count_write();
         Ok(Answer::Done)
     }

@@ -152,10 +152,12 @@ impl<'s> Plan<'s> {
 
     fn write_entry(&self, bucket: u8) -> WriteEntry {
         let look = &self.survey[bucket];
+        let blank = look.blank_pages(&self.sizes);
         WriteEntry {
             back_end: look.back_end,
             bucket,
-            priority: self.sizes.bucket_pages as u8 - look.used,
+            priority: blank,
+            blank,
             // The chip does not say whether the copy was made before the last log.
             marked: false,
         }

@@ -24,6 +24,8 @@ pub struct WriteEntry {
     pub back_end: u16,
     pub bucket: u8,
     pub priority: u8,
+    /// Blank pages of the bucket; the priority is as many only until it is halved.
+    pub blank: u8,
     /// Whether the logs are all in the read bucket.
     pub marked: bool,
 }
@@ -62,7 +64,7 @@ impl State {
     /// Where the bytes of a back-end bucket are.
     pub fn holding(&self, back_end: u16) -> Holding<'_> {
         let copy = self.reads.iter().find(|e| e.back_end == back_end);
-        let write = self.writes.iter().find(|e| e.back_end == back_end);
+        let write = self.write_entry(back_end);
         Holding {
             back_end,
             copy: copy.map(|e| e.bucket),
@@ -87,13 +89,19 @@ impl State {
         self.reads.push(ReadEntry { back_end, bucket });
     }
 
-    /// Takes a log of a back-end bucket into account: its priority is set, and no copy
-    /// has the log yet. A back-end bucket that is not queued goes last.
-    pub fn set_write(&mut self, back_end: u16, bucket: u8, priority: u8) {
+    /// The record of a back-end bucket in the write queue.
+    pub fn write_entry(&self, back_end: u16) -> Option<&WriteEntry> {
+        self.writes.iter().find(|e| e.back_end == back_end)
+    }
+
+    /// Takes a log of a back-end bucket into account: its priority is the blank pages
+    /// left, and no copy has the log yet. A back-end bucket that is not queued goes last.
+    pub fn set_write(&mut self, back_end: u16, bucket: u8, blank: u8) {
         let logged = WriteEntry {
             back_end,
             bucket,
-            priority,
+            priority: blank,
+            blank,
             marked: false,
         };
         match self.writes.iter_mut().find(|e| e.back_end == back_end) {
@@ -104,8 +112,7 @@ impl State {
 
     /// Whether the read bucket of a back-end bucket has all logs of its Write bucket.
     pub fn is_marked(&self, back_end: u16) -> bool {
-        let mut writes = self.writes.iter();
-        writes.any(|e| e.back_end == back_end && e.marked)
+        self.write_entry(back_end).is_some_and(|e| e.marked)
     }
 
     /// Marks the record of a back-end bucket, or clears its mark; without one nothing
@@ -116,7 +123,8 @@ impl State {
         }
     }
 
-    /// Counts an accepted write and halves all priorities at every 16th.
+    /// Counts an accepted write and halves all priorities at every 16th; the counts of
+    /// blank pages stay.
     pub fn count_write(&mut self) {
         self.write_count += 1;
         if self.write_count == HALVING_PERIOD {

@@ -3,7 +3,7 @@
 use crate::device::{Cut, Device};
 use crate::merge::Holding;
 use crate::spare::Kind;
-use crate::state::State;
+use crate::state::{State, WriteEntry};
 use crate::survey::Survey;
 
 /// A call that got past every refusal.
@@ -15,11 +15,11 @@ pub struct Call<'a> {
     pub survey: &'a Survey,
 }
 
-/// A place for a log: the bucket, its epoch and its pages in use.
+/// A place for a log: the bucket, its epoch and its blank pages.
 pub struct Room {
     pub bucket: u8,
     pub epoch: u32,
-    pub used: usize,
+    pub blank: usize,
 }
 
 impl Call<'_> {
@@ -104,17 +104,17 @@ impl Call<'_> {
             .map(|e| e.back_end)
     }
 
-    /// Finds or makes room for a log of `pages` pages.
+    /// Finds or makes room for a log of `pages` pages, by the blank pages that the
+    /// record of the back-end bucket keeps.
     pub fn room_for_log(&mut self, back_end: u16, pages: usize) -> Result<Room, Cut> {
-        if let &[bucket] = self.state.holding(back_end).writes {
-            let look = &self.survey[bucket];
-            let used = usize::from(look.used);
-            if used + pages <= self.state.sizes.bucket_pages {
-                let epoch = look.epoch;
+        if let Some(&WriteEntry { bucket, blank, .. }) = self.state.write_entry(back_end) {
+            let blank = usize::from(blank);
+            if pages <= blank {
+                let epoch = self.survey[bucket].epoch;
                 return Ok(Room {
                     bucket,
                     epoch,
-                    used,
+                    blank,
                 });
             }
             self.evict_write(back_end)?;
@@ -127,7 +127,7 @@ impl Call<'_> {
         Ok(Room {
             bucket,
             epoch,
-            used: 0,
+            blank: self.state.sizes.bucket_pages,
         })
     }
 }

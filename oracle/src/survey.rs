@@ -33,6 +33,11 @@ impl Look {
     pub fn is_complete(&self, sizes: &Sizes) -> bool {
         usize::from(self.used) == sizes.bucket_pages
     }
+
+    /// How many pages are blank: all behind those in use.
+    pub fn blank_pages(&self, sizes: &Sizes) -> u8 {
+        sizes.bucket_pages as u8 - self.used
+    }
 }
 
 /// What the whole chip holds. It is filled where it stands, as it is too large to be

@@ -4,33 +4,27 @@ use meter::Meter;
 use state::State;
 use steps::Turn;
 ghost use mathlib.Core.Path.{_≡_};
-ghost use Prim.Native.Nat.{_≤_, _<_};
+ghost use Prim.Native.Nat.{_≤_};
 ghost use lib.ListN.{length};
 ghost use Rattle.model.specs.Sizes.{pagesFor};
-ghost use Rattle.model.specs.State.{cacheOf};
 ghost use Rattle.model.specs.Steps.{_then_, makeRoom};
-ghost use Rattle.model.specs.Operations.{fits, appendLog, startLog};
+ghost use Rattle.model.specs.Operations.{appendLog, startLog};
+ghost use Rattle.model.proofs.Limits.{Limits};
 ghost use Rattle.geometry.specs.Geometry.{Lent};
-ghost use Rattle.image.specs.Chip.{Chip, spareOnly};
 ghost use Rattle.meter.specs.Run.{running};
-ghost use Rattle.queue.specs.View.{entriesOf};
 ghost use Rattle.state.specs.View.{placesOf};
 ghost use Rattle.steps.specs.Turns.{reached, after};
-ghost use Rattle.arrival.specs.Arrives.{Appends, Starts};
+ghost use Rattle.arrival.specs.Arrives.{keptFits, Appends, Starts};
 
-// Whether b has a Write bucket with enough blank pages for a log of n bytes.
-pub fn fits(s: State, b: u16, n: usize, spare: &[u8]) -> bool
-    requires { ⌜ Chip (s .sizes) (now spare) ⌝ }
-    requires { ⌜ (cacheOf b (entriesOf (s .writes)) < s .sizes .c) × (n ≤ 65536) ⌝ }
-    ensures { λ r. ⌜ r ≡ fits (s .sizes) (spareOnly (now (spare .entry))) b (pagesFor (s .sizes) n) (placesOf s) ⌝ }
+// Whether b has a Write bucket with enough blank pages for a log of n bytes, by the count in its record.
+pub fn fits(s: State, b: u16, n: usize) -> bool
+    requires { ⌜ Limits (s .sizes) ⌝ }
+    requires { ⌜ n ≤ 65536 ⌝ }
+    ensures { λ r. ⌜ r ≡ keptFits b (pagesFor (s .sizes) n) (placesOf s) ⌝ }
 {
     let logs = s.writes.find(b);
-    if !logs.held {
-        return false;
-    }
-    let bucket = logs.cache as usize;
     let pages = geometry::pages_for(s.sizes, n);
-    pages <= image::blanks(s.sizes, bucket, spare)
+    logs.held & (pages <= (logs.blank as usize))
 }
 
 // The log goes behind the pages of b's Write bucket.
@@ -50,12 +44,13 @@ pub fn append_log(
     ensures { λ _. ⌜ Lent (s .sizes) (now (flash .exit)) (now (spare .exit)) (now (disk .exit)) ⌝ }
 {
     let z = s.sizes;
-    let bucket = s.writes.cache_of(b) as usize;
-    let blanks = image::blanks(z, bucket, spare);
+    let own = s.writes.find(b);
+    let bucket = own.cache as usize;
+    let blank = own.blank as usize;
     let epoch = image::used_epoch(z, bucket, spare);
     let pages = geometry::pages_for(z, bytes.len());
-    let first = z.p - blanks;
-    let priority = (blanks - pages) as u8;
+    let first = z.p - blank;
+    let rest = (blank - pages) as u8;
     let target = Log {
         bucket,
         first,
@@ -65,7 +60,7 @@ pub fn append_log(
         offset,
     };
     let left = log::program_log(meter, z, target, bytes, flash, spare, disk);
-    let state = s.accept(b, priority);
+    let state = s.accept(b, rest);
     Turn { meter: left, state }
 }
 
@@ -87,7 +82,7 @@ pub fn start_log(
 {
     let z = s.sizes;
     let pages = geometry::pages_for(z, bytes.len());
-    let priority = (z.p - pages) as u8;
+    let rest = (z.p - pages) as u8;
     let room = copying::room_of(s);
     let left = copying::fresh_log(
         meter,
@@ -103,6 +98,6 @@ pub fn start_log(
     );
     let roomed = s.roomed();
     let arrived = roomed.take_write(b);
-    let state = arrived.accept(b, priority);
+    let state = arrived.accept(b, rest);
     Turn { meter: left, state }
 }

@@ -1,4 +1,4 @@
--- The back-end buckets in the queues are on the disk, and Write buckets there have programmed pages.
+-- The back-end buckets in the queues are on the disk; Write buckets there have programmed pages, and the blank ones that their records say.
 use Prim.Native.Nat.{ℕ, _<_}
 use mathlib.Core.Path.{_≡_, refl, sym, _∙_}
 use mathlib.Core.Bool.{Bool, true, false, true≢false}
@@ -10,12 +10,13 @@ use Rattle.lists.proofs.Tests.{and-left, and-right, every-at}
 use Rattle.model.specs.declared.Sizes.{Sizes}
 use Rattle.model.specs.declared.Entry.{Entry}
 use Rattle.model.specs.Sizes.{Device, body}
-use Rattle.model.specs.Image.{used, backOf, isWrite, isCopy, complete}
-use Rattle.model.specs.State.{State, isOf, holds, recordOf, cacheOf, cacheBucket, caches, isBelow, readAgrees, writeAgrees, stateFits}
+use Rattle.model.specs.Image.{used, backOf, isWrite, isCopy, complete, blanks}
+use Rattle.model.specs.State.{State, isOf, holds, cacheOf, blankOf, cacheBucket, caches, isBelow, readAgrees, countAgrees, writeAgrees, stateFits}
 use Rattle.model.proofs.Formed.{formed-of}
 use Rattle.model.proofs.BucketKinds.{back-below}
+use Rattle.model.proofs.QueuesGrown.{held-record}
 use Rattle.image.specs.Chip.{spareOnly}
-use Rattle.image.proofs.SameSpare.{same-used}
+use Rattle.image.proofs.SameSpare.{same-used, same-blanks}
 use Rattle.checks.proofs.Opens.{Image, Open, open-orderly}
 
 module _ {z : Sizes} {d : Device} (o : Image z d) where
@@ -32,16 +33,6 @@ module _ {z : Sizes} {d : Device} (o : Image z d) where
             let s = shown e (and-left (agrees e) (all agrees l) a) in
             rw (s .1 ∙ eqb-true (e .back) b q) at (back-below z d (formed-of z d (o .formed)) (o .limits .p-low) (e .cache) (ltb-true (e .cache) (body z) (and-left (isBelow (body z) (e .cache)) (all (isBelow (body z)) (caches l)) k)) (s .0))
         go false q g later = later g
-
--- the record of b is one of a queue that holds b
-held-record : (t : Entry → Bool) (b : ℕ) (l : List Entry) → all t l ≡ true → holds b l ≡ true → t (recordOf b l) ≡ true
-unfolding all holds recordOf
-held-record t b [] a h = absurd (true≢false (sym h))
-held-record t b (e ∷ l) a h = go (isOf b e) h (held-record t b l (and-right (t e) (all t l) a))
-  where
-    go : (q : Bool) → (if q then true else holds b l) ≡ true → (holds b l ≡ true → t (recordOf b l) ≡ true) → t (if q then e else recordOf b l) ≡ true
-    go true g later = and-left (t e) (all t l) a
-    go false g later = later g
 
 module _ {s : State} {d : Device} (o : Open s d) (b : ℕ) where
   pub read-back : holds b (s .reads) ≡ true → b < s .sizes .b
@@ -63,5 +54,11 @@ module _ {s : State} {d : Device} (o : Open s d) (b : ℕ) where
   pub write-used : holds b (s .writes) ≡ true → used (s .sizes) (spareOnly (d .spare)) (cacheOf b (s .writes)) ≡ true
   unfolding stateFits writeAgrees isWrite cacheOf
   write-used h =
-      let agrees = every-at _ (held-record (writeAgrees (s .sizes) d) b (s .writes) (every-at _ (o .fits) 6) h) in
+      let agrees = every-at _ (held-record (writeAgrees (s .sizes) d) (s .writes) b (every-at _ (o .fits) 6) h) in
       same-used (s .sizes) d (cacheOf b (s .writes)) ∙ and-left (used (s .sizes) d (cacheOf b (s .writes))) _ (agrees 0)
+
+  pub write-count : holds b (s .writes) ≡ true → blanks (s .sizes) (spareOnly (d .spare)) (cacheOf b (s .writes)) ≡ blankOf b (s .writes)
+  unfolding stateFits writeAgrees countAgrees cacheOf blankOf
+  write-count h =
+      let agrees = every-at _ (held-record (writeAgrees (s .sizes) d) (s .writes) b (every-at _ (o .fits) 6) h) in
+      same-blanks (s .sizes) d (cacheOf b (s .writes)) ∙ sym (eqb-true _ _ (agrees 3))

@@ -144,12 +144,14 @@ fn read_agrees(e: Entry, z: Sizes, spare: &[u8]) -> bool
 fn write_agrees(e: Entry, z: Sizes, spare: &[u8]) -> bool
     requires { ⌜ Chip z (now spare) ⌝ }
     requires { ⌜ e .cache < z .c ⌝ }
+    requires { ⌜ bucketFits z (spareOnly (now spare)) (e .cache) ≡ true ⌝ }
     ensures { λ r. ⌜ r ≡ writeAgrees z (spareOnly (now (spare .entry))) e ⌝ }
 {
     let c = e.cache as usize;
     let write = image::is_write(z, c, spare);
     let back = image::back_of(z, c, spare) == e.back;
-    write & back & (e.priority as usize <= z.p)
+    let count = image::has_blanks(z, c, e.blank as usize, spare);
+    write & back & (e.priority as usize <= z.p) & count
 }
 
 fn entry_agrees(e: Entry, written: bool, z: Sizes, spare: &[u8]) -> bool

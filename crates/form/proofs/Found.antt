@@ -58,12 +58,13 @@ byte-number l at =
     omega (arith, rw same at (getD-drop at l 0 0))
 
 pub entry-at : (write : Bool) (l : List ℕ) (at : ℕ) → entryFrom (rowIn (entryWidths write) (drop at l))
-    ≡ record { back = numberIn 2 (drop at l); cache = getD l (at + 2) 0; priority = if write then getD l (at + 3) 0 else 0; marked = eqb (if write then getD l (at + 4) 0 else 0) 1 }
+    ≡ record { back = numberIn 2 (drop at l); cache = getD l (at + 2) 0; priority = if write then getD l (at + 3) 0 else 0; marked = eqb (if write then getD l (at + 4) 0 else 0) 1; blank = if write then getD l (at + 5) 0 else 0 }
 unfolding rowIn entryWidths entryFrom
 entry-at true l at =
     let third : at + 3 ≡ at + 2 + 1 = omega arith in
     let fourth : at + 4 ≡ at + 2 + 1 + 1 = omega arith in
-    rw (third, fourth) (simp (drop-drop, byte-number) refl)
+    let fifth : at + 5 ≡ at + 2 + 1 + 1 + 1 = omega arith in
+    rw (third, fourth, fifth) (simp (drop-drop, byte-number) refl)
 entry-at false l at = simp (drop-drop, byte-number) refl
 
 pub mark-at : (l : List ℕ) (at : ℕ) → isEntry (rowIn (entryWidths true) (drop at l)) ≡ leb (getD l (at + 4) 0) 1

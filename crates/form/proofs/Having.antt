@@ -21,7 +21,7 @@ counts-first s true true true false u = and-false s
 counts-first s true true true true false = refl
 counts-first s true true true true true = refl
 
--- its queues have places, its sizes fit, and its read queue has neither priorities nor marks
+-- its queues have places, its sizes fit, and its read queue has entries of buckets alone
 pub form-had : (s : State) → hasForm (viewOf s) ≡ (hasPlaces s && (rowFits sizeWidths (sizeNumbers (s .sizes)) && all isPlain (viewOf s .reads)))
 unfolding hasForm viewOf
 form-had s =

@@ -1,7 +1,7 @@
 -- The form of a state and its bytes are each other's inverse.
 use Prim.Native.Nat.{ℕ, zero, suc, _≤_}
 use mathlib.Core.Path.{_≡_, refl, sym, ap, _∙_}
-use mathlib.Core.Bool.{Bool, true, false, not}
+use mathlib.Core.Bool.{Bool, true, false, not, _&&_}
 use mathlib.Core.List.{List, [], _∷_, _++_, map, append-nil}
 use native.Mathlib.Omega.{arith}
 use borrow.Author.Tests.{leb-true, le-leb, eqb-true, eq-eqb, not-true}
@@ -49,14 +49,16 @@ entry-fits false e h = let room = row-at (entryWidths true) (entryNumbers true e
 
 entry-back : (e : Entry) → entryTyped e ≡ true → entryFrom (entryNumbers true e) ≡ e
 unfolding entryFrom entryNumbers
-entry-back e h = λ i. record { back = e .back; cache = e .cache; priority = e .priority; marked = mark-read (e .marked) i }
+entry-back e h = λ i. record { back = e .back; cache = e .cache; priority = e .priority; blank = e .blank; marked = mark-read (e .marked) i }
 
 plain-back : (e : Entry) → isPlain e ≡ true → entryFrom (entryNumbers false e) ≡ e
 unfolding entryFrom entryNumbers isPlain
 plain-back e h =
-    let unranked = eqb-true (e .priority) 0 (and-left (eqb (e .priority) 0) (not (e .marked)) h) in
-    let unmarked = not-true (e .marked) (and-right (eqb (e .priority) 0) (not (e .marked)) h) in
-    λ i. record { back = e .back; cache = e .cache; priority = sym unranked i; marked = sym unmarked i }
+    let numbers = and-left (eqb (e .priority) 0 && eqb (e .blank) 0) (not (e .marked)) h in
+    let unranked = eqb-true (e .priority) 0 (and-left (eqb (e .priority) 0) (eqb (e .blank) 0) numbers) in
+    let uncounted = eqb-true (e .blank) 0 (and-right (eqb (e .priority) 0) (eqb (e .blank) 0) numbers) in
+    let unmarked = not-true (e .marked) (and-right (eqb (e .priority) 0 && eqb (e .blank) 0) (not (e .marked)) h) in
+    λ i. record { back = e .back; cache = e .cache; priority = sym unranked i; blank = sym uncounted i; marked = sym unmarked i }
 
 entry-is : (e : Entry) → entryTyped e ≡ true → isEntry (entryNumbers true e) ≡ true
 unfolding isEntry entryNumbers
@@ -71,10 +73,10 @@ entry-typed : (write : Bool) (l : List ℕ) → all (inBytes 1) l ≡ true → e
 unfolding entryTyped entryFrom entryNumbers entryWidths rowIn
 entry-typed true l h =
     let room = row-at (entryWidths true) (rowIn (entryWidths true) l) (row-small (entryWidths true) l h) in
-    unfold rowFits in and-true (room 0) (and-true (room 1) (and-true (room 2) (and-true (mark-fits (eqb (getD (rowIn (entryWidths true) l) 3 0) 1)) refl)))
-entry-typed false l h = row-join (entryWidths false) (rowIn (entryWidths false) l) (1 ∷ 1 ∷ []) (0 ∷ mark false ∷ []) (row-small (entryWidths false) l h) (unfold rowFits inBytes mark in refl)
+    unfold rowFits in and-true (room 0) (and-true (room 1) (and-true (room 2) (and-true (mark-fits (eqb (getD (rowIn (entryWidths true) l) 3 0) 1)) (and-true (room 4) refl))))
+entry-typed false l h = row-join (entryWidths false) (rowIn (entryWidths false) l) (1 ∷ 1 ∷ 1 ∷ []) (0 ∷ mark false ∷ 0 ∷ []) (row-small (entryWidths false) l h) (unfold rowFits inBytes mark in refl)
 
--- a row of the read queue has no priority and no mark
+-- a row of the read queue has no priority, no mark and no blank pages
 entry-plain : (l : List ℕ) → all (inBytes 1) l ≡ true → isPlain (entryFrom (rowIn (entryWidths false) l)) ≡ true
 unfolding isPlain entryFrom entryWidths rowIn
 entry-plain l h = refl
@@ -121,7 +123,7 @@ entries-written : (write : Bool) (l : List ℕ) → tableFits 1 (entryWidths wri
 unfolding entriesIn
 entries-written write l fits marks h = values-written 1 (entryWidths write) 64 (entryNumbers write) entryFrom entryTyped isEntry (entry-typed write) (entry-kept write) l fits marks h
 
--- the read queue has no priorities and no marks
+-- the read queue has none of the three
 entries-plain : (l : List ℕ) → all (inBytes 1) l ≡ true → all isPlain (entriesIn false l) ≡ true
 unfolding entriesIn tableIn
 entries-plain l h = rows-made (entryWidths false) entryFrom isPlain entry-plain (numberIn 1 l) (drop 1 l) (all-drop (inBytes 1) 1 l h)

@@ -21,7 +21,7 @@ pub read-wide : width (entryWidths false) ≡ 3
 unfolding width entryWidths
 read-wide = refl
 
-pub write-wide : width (entryWidths true) ≡ 5
+pub write-wide : width (entryWidths true) ≡ 6
 unfolding width entryWidths
 write-wide = refl
 

@@ -168,7 +168,7 @@ form-long s =
       length-append (bucketsForm (s .gc)) (bucketsForm (s .free)),
     )
 
-pub form-wide : (s : State) → length (formOf s) ≡ 25 + length (s .reads) * 3 + length (s .writes) * 5 + length (s .gc) + length (s .free)
+pub form-wide : (s : State) → length (formOf s) ≡ 25 + length (s .reads) * 3 + length (s .writes) * 6 + length (s .gc) + length (s .free)
 unfolding width entryWidths
 form-wide s = omega (arith, form-long s, entries-wide false (s .reads), entries-wide true (s .writes), buckets-wide (s .gc), buckets-wide (s .free))
 

@@ -19,4 +19,4 @@ WritesBack = (l : List ℕ) → all (inBytes 1) l ≡ true → isForm l ≡ true
 
 -- no form is longer than `LONGEST`: a buffer of so many bytes has room for each
 abbrev pub NeverLonger : Type 0
-NeverLonger = (s : State) → hasForm s ≡ true → length (formOf s) ≤ 1049
+NeverLonger = (s : State) → hasForm s ≡ true → length (formOf s) ≤ 1113

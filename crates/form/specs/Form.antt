@@ -31,17 +31,17 @@ headNumbers s = sizeNumbers (s .sizes) ++ (mark (s .running) ∷ s .accepted ∷
 
 -- ---- rows of the queues
 
--- a write queue's entry: back-end bucket (2), cache bucket (1), priority (1), mark (1); a read queue's has the buckets alone
+-- a write queue's entry: back-end bucket (2), cache bucket (1), priority (1), mark (1), blank pages (1); a read queue's has the buckets alone
 unfoldable pub entryWidths : (write : Bool) → List ℕ
-entryWidths true = 2 ∷ 1 ∷ 1 ∷ 1 ∷ []
+entryWidths true = 2 ∷ 1 ∷ 1 ∷ 1 ∷ 1 ∷ []
 entryWidths false = 2 ∷ 1 ∷ []
 
 unfoldable pub entryNumbers : (write : Bool) → Entry → List ℕ
-entryNumbers true e = e .back ∷ e .cache ∷ e .priority ∷ mark (e .marked) ∷ []
+entryNumbers true e = e .back ∷ e .cache ∷ e .priority ∷ mark (e .marked) ∷ e .blank ∷ []
 entryNumbers false e = e .back ∷ e .cache ∷ []
 
 unfoldable pub entryFrom : List ℕ → Entry
-entryFrom ns = record { back = getD ns 0 0; cache = getD ns 1 0; priority = getD ns 2 0; marked = eqb (getD ns 3 0) 1 }
+entryFrom ns = record { back = getD ns 0 0; cache = getD ns 1 0; priority = getD ns 2 0; marked = eqb (getD ns 3 0) 1; blank = getD ns 4 0 }
 
 -- a row of the write queue that says an entry: its mark is 0 or 1
 unfoldable pub isEntry : List ℕ → Bool
@@ -49,7 +49,7 @@ isEntry ns = leb (getD ns 3 0) 1
 
 -- an entry of which a row of the read queue says all
 unfoldable pub isPlain : Entry → Bool
-isPlain e = eqb (e .priority) 0 && not (e .marked)
+isPlain e = eqb (e .priority) 0 && eqb (e .blank) 0 && not (e .marked)
 
 -- a bucket of the GC or the free queue (1)
 abbrev pub bucketWidths : List ℕ
@@ -75,7 +75,7 @@ formOf s = rowBytes headWidths (headNumbers s)
     ++ (entriesForm true (s .writes)
     ++ (bucketsForm (s .gc) ++ bucketsForm (s .free))))
 
--- a state that has a form: its sizes and counts have room in their bytes, and its read queue, in which no priority or mark counts, has none
+-- a state that has a form: its sizes and counts have room in their bytes, and its read queue, in which no priority, mark or blank page counts, has none
 unfoldable pub hasForm : State → Bool
 hasForm s = every
     (rowFits sizeWidths (sizeNumbers (s .sizes))

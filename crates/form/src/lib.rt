@@ -14,7 +14,7 @@ ghost use Rattle.state.specs.View.{viewOf, stateOf};
 ghost use Rattle.form.specs.Form.{formOf, hasForm, isForm, stateIn};
 
 // The bytes of the longest form: `NeverLonger` in specs/Claims.
-pub const LONGEST: usize = 1049;
+pub const LONGEST: usize = 1113;
 
 // The head's bytes, and where the running mark, the write count and the next epoch stand in it, behind the sizes.
 const HEAD: usize = 19;
@@ -28,7 +28,7 @@ const EPOCH: usize = 11;
 // The bytes of an entry of the read queue, and of the write queue.
 const READ_ROW: usize = 3;
 
-const WRITE_ROW: usize = 5;
+const WRITE_ROW: usize = 6;
 
 // The state's form at the start of `out`, and its length; 0 where it has none, or none that has room there.
 pub fn state_bytes(s: State, out: &mut [u8]) -> usize

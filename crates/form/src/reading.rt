@@ -76,10 +76,12 @@ fn entry_at(bytes: &[u8], at: usize, write: bool) -> Entry
     let cache = byte_at(bytes, at + 2);
     let priority = extra_at(bytes, at + 3, write);
     let mark = extra_at(bytes, at + 4, write);
+    let blank = extra_at(bytes, at + 5, write);
     Entry {
         back: back as u16,
         cache,
         priority,
+        blank,
         marked: mark == 1,
     }
 }

@@ -79,6 +79,7 @@ fn put_entry(out: &mut [u8], at: usize, e: Entry, write: bool)
     if write {
         put_number(out, at + 3, 1, e.priority as u64);
         put_number(out, at + 4, 1, mark(e.marked));
+        put_number(out, at + 5, 1, e.blank as u64);
     }
 }
 
@@ -166,7 +167,7 @@ fn sizes_fit(z: Sizes) -> bool
 fn is_plain(e: Entry) -> bool
     ensures { λ r. ⌜ r ≡ isPlain e ⌝ }
 {
-    (e.priority == 0) & !e.marked
+    (e.priority == 0) & (e.blank == 0) & !e.marked
 }
 
 fn all_plain(items: [Entry; 64], n: usize) -> bool

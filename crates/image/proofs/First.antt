@@ -7,8 +7,8 @@ use native.Mathlib.Nat.{add-zero}
 use native.Mathlib.Omega.{arith}
 use native.Mathlib.Decide.{decLt}
 use lib.ListN.{length}
-use lib.Dec.{eqb}
-use borrow.Author.Tests.{eq-eqb, ne-eqb, leb-true, leb-false}
+use lib.Dec.{leb, eqb}
+use borrow.Author.Tests.{eq-eqb, ne-eqb, leb-true, leb-false, le-leb, lt-leb}
 use Rattle.lists.specs.Lists.{allBelow, part}
 use Rattle.lists.proofs.Rows.{all-below}
 use Rattle.lists.proofs.Tests.{and-left}
@@ -94,3 +94,28 @@ programmed-end z d c k h inside before behind = go (decLt k (z .p)) (decLt 0 k)
 
     go : Dec (k < z .p) → Dec (0 < k) → k ≡ z .p - blanks z d c
     go u v = omega (arith, high u, low v)
+
+-- a page that has a kind, and all before it, are programmed
+pub kind-to : (z : Sizes) (d : Device) (c k : ℕ) → bucketFits z d c ≡ true → k < z .p → not (eqb (kind (tagOf z d c k)) 255) ≡ leb (k + 1) (z .p - blanks z d c)
+unfolding bucketFits
+kind-to z d c k fit h = rw (← kind-blank z d c k fit h, blank-from z d c (all-below (z .p) (pageFits z d c) fit) k h) (go (decLt k (z .p - blanks z d c)))
+  where
+    go : Dec (k < z .p - blanks z d c) → not (leb (z .p - blanks z d c) k) ≡ leb (k + 1) (z .p - blanks z d c)
+    go (yes u) = rw (lt-leb (z .p - blanks z d c) k u, le-leb (k + 1) (z .p - blanks z d c) (omega arith))
+    go (no u) = rw (le-leb (z .p - blanks z d c) k (omega arith), lt-leb (k + 1) (z .p - blanks z d c) (omega arith))
+
+-- of p pages the last m are blank: the last n are so, and no page before, if n is m
+pub blank-last : (p m n : ℕ) → m ≤ p → n ≤ p → leb (p - n) (p - m) && not (leb (p - n + 1) (p - m)) ≡ eqb n m
+blank-last p m n hm hn = go (decLt n m) (decLt m n)
+  where
+    go : Dec (n < m) → Dec (m < n) → leb (p - n) (p - m) && not (leb (p - n + 1) (p - m)) ≡ eqb n m
+    go (yes u) v = rw (lt-leb (p - n) (p - m) (omega arith), ne-eqb n m (λ q. omega arith))
+    go (no u) (yes v) = rw (le-leb (p - n) (p - m) (omega arith), le-leb (p - n + 1) (p - m) (omega arith), ne-eqb n m (λ q. omega arith))
+    go (no u) (no v) = rw (le-leb (p - n) (p - m) (omega arith), lt-leb (p - n + 1) (p - m) (omega arith), eq-eqb n m (omega arith))
+
+pub blank-none : (p m n : ℕ) → m ≤ p → n ≡ 0 → leb (p - n) (p - m) ≡ eqb n m
+blank-none p m n hm e = go (decLt n m)
+  where
+    go : Dec (n < m) → leb (p - n) (p - m) ≡ eqb n m
+    go (yes u) = rw (lt-leb (p - n) (p - m) (omega arith), ne-eqb n m (λ q. omega arith))
+    go (no u) = rw (le-leb (p - n) (p - m) (omega arith), eq-eqb n m (omega arith))

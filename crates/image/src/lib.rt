@@ -5,7 +5,8 @@ use model::Sizes;
 use spare::Seen;
 ghost use mathlib.Core.Path.{_≡_};
 ghost use mathlib.Core.Bool.{true};
-ghost use Prim.Native.Nat.{_-_, _<_};
+ghost use Prim.Native.Nat.{_-_, _≤_, _<_};
+ghost use lib.Dec.{leb, eqb};
 ghost use Rattle.model.specs.Stores.{tagOf};
 ghost use Rattle.model.specs.Image.{bucketFits, used, epochOf, backOf, isWrite, isCopy, isDirty, complete, pageBlank, endsLog, blanks};
 ghost use Rattle.spare.specs.Fields.{seen};
@@ -136,6 +137,37 @@ pub fn programmed(z: Sizes, c: usize, spare: &[u8]) -> usize
         k += 1;
     }
     k
+}
+
+// Whether the first k pages of a bucket that fits are programmed: the last of them has a kind.
+fn programmed_to(z: Sizes, c: usize, k: usize, spare: &[u8]) -> bool
+    requires { ⌜ Chip z (now spare) ⌝ }
+    requires { ⌜ (c < z .c) × (k ≤ z .p) ⌝ }
+    requires { ⌜ bucketFits z (spareOnly (now spare)) c ≡ true ⌝ }
+    ensures { λ r. ⌜ r ≡ leb k (z .p - blanks z (spareOnly (now (spare .entry))) c) ⌝ }
+{
+    if k == 0 {
+        return true;
+    }
+    spare::kind_at(spare, c * z.p + (k - 1)) != spare::NO_KIND
+}
+
+// Whether a bucket that fits has so many blank pages. They are its last, so two pages tell: the one before them and the first of them.
+pub fn has_blanks(z: Sizes, c: usize, n: usize, spare: &[u8]) -> bool
+    requires { ⌜ Chip z (now spare) ⌝ }
+    requires { ⌜ c < z .c ⌝ }
+    requires { ⌜ bucketFits z (spareOnly (now spare)) c ≡ true ⌝ }
+    ensures { λ r. ⌜ r ≡ eqb n (blanks z (spareOnly (now (spare .entry))) c) ⌝ }
+{
+    if z.p < n {
+        return false;
+    }
+    let first = z.p - n;
+    let before = programmed_to(z, c, first, spare);
+    if n == 0 {
+        return before;
+    }
+    before & !programmed_to(z, c, first + 1, spare)
 }
 
 // How many of the bucket's pages are blank.

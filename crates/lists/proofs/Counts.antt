@@ -74,14 +74,6 @@ unfolding empty
 grown-some [] x = refl
 grown-some (y ∷ l) x = refl
 
--- the members of both lists are below n
-pub below-grown : (n : ℕ) (l m : List ℕ) → ((x : ℕ) → 1 ≤ times x l → x < n) → ((x : ℕ) → 1 ≤ times x m → x < n) → (x : ℕ) → 1 ≤ times x (l ++ m) → x < n
-below-grown n l m h k x q = go (decLt 0 (times x l))
-  where
-    go : Dec (0 < times x l) → x < n
-    go (yes u) = h x u
-    go (no u) = k x (omega (arith, times-append x l m))
-
 pub mem-times : (x : ℕ) (l : List ℕ) → List·Memᴰ x l → 1 ≤ times x l
 mem-times x [] m = absurd (List·Memᴰ·not-nil m)
 mem-times x (y ∷ l) m = go (List·Memᴰ·cases-cons m) (λ t. mem-times x l t)

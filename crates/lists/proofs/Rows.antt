@@ -7,7 +7,7 @@ use mathlib.Core.List.{List, [], _∷_, _++_, map, append-nil, append-assoc}
 use native.Mathlib.Nat.{add-zero, add-suc, zero-mul, suc-mul}
 use native.Mathlib.Numerals.{add-one}
 use native.Mathlib.Omega.{arith}
-use native.Mathlib.Decide.{ℕ-discrete}
+use native.Mathlib.Decide.{decLt, ℕ-discrete}
 use lib.ListN.{length, take, getD, length-append, List·getD-append}
 use lib.Seq.{getD-at, take-all, take-nil, take-append-le}
 use lib.Dec.{leb}
@@ -97,15 +97,27 @@ count-le (suc n) t = go (t n) (count-le n t)
     go true h = omega arith
     go false h = omega arith
 
-pub count-all : (n : ℕ) (t : ℕ → Bool) → ((k : ℕ) → k < n → t k ≡ true) → countBelow n t ≡ n
+pub count-alike : (n : ℕ) (s t : ℕ → Bool) → ((k : ℕ) → k < n → s k ≡ t k) → countBelow n s ≡ countBelow n t
 unfolding countBelow
-count-all zero t h = refl
-count-all (suc n) t h = rw (h n (omega arith), count-all n t (λ k hk. h k (omega arith))) (omega arith)
+count-alike zero s t h = refl
+count-alike (suc n) s t h = rw (h n (omega arith), count-alike n s t (λ k hk. h k (omega arith)))
+
+-- a test that holds from m on
+pub count-from : (m n : ℕ) (t : ℕ → Bool) → m ≤ n → ((k : ℕ) → k < m → t k ≡ false) → ((k : ℕ) → m ≤ k → k < n → t k ≡ true) → countBelow n t ≡ n - m
+unfolding countBelow
+count-from m zero t h none all = omega arith
+count-from m (suc n) t h none all = go (decLt n m) (λ j hj. count-from j n t hj)
+  where
+    go : Dec (n < m) → ((j : ℕ) → j ≤ n → ((k : ℕ) → k < j → t k ≡ false) → ((k : ℕ) → j ≤ k → k < n → t k ≡ true) → countBelow n t ≡ n - j)
+        → (if t n then countBelow n t + 1 else countBelow n t) ≡ suc n - m
+    go (yes q) r = rw (none n q, r n (omega arith) (λ k hk. none k (omega arith)) (λ k lo hi. absurd (omega arith))) (omega arith)
+    go (no q) r = rw (all n (omega arith) (omega arith), r m (omega arith) none (λ k lo hi. all k lo (omega arith))) (omega arith)
+
+pub count-all : (n : ℕ) (t : ℕ → Bool) → ((k : ℕ) → k < n → t k ≡ true) → countBelow n t ≡ n
+count-all n t h = count-from 0 n t (omega arith) (λ k hk. absurd (omega arith)) (λ k lo hi. h k hi) ∙ omega arith
 
 pub count-none : (n : ℕ) (t : ℕ → Bool) → ((k : ℕ) → k < n → t k ≡ false) → countBelow n t ≡ 0
-unfolding countBelow
-count-none zero t h = refl
-count-none (suc n) t h = rw (h n (omega arith)) (count-none n t (λ k hk. h k (omega arith)))
+count-none n t h = count-from n n t (omega arith) h (λ k lo hi. absurd (omega arith)) ∙ omega arith
 
 -- a count that is the whole bound leaves none out
 pub count-full : (n : ℕ) (t : ℕ → Bool) → countBelow n t ≡ n → (k : ℕ) → k < n → t k ≡ true

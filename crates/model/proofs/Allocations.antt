@@ -109,7 +109,7 @@ module _ (s : State) (d : Device) (pass : Passed s d) where
   copy-read-allocates : (b : ℕ) → Allocates s d (makePlace (s .sizes) b ∷ []) (readCopy (s .sizes) b (merged (s .sizes) s d b) s d)
   unfolding readCopy _then_ move nothing setMark moved all
   copy-read-allocates b =
-      let left = place-rises s d pass b .1 .some-there in
+      let left = place-rises s d pass b .1 in
       record {
         finds = and-true (finds-after (makePlace z b) left) refl;
         epochs = copy-next z _ b (merged z s d b) (makePlace z b s d .state) _ left ∙ ap (λ (n : ℕ). n + 1) (place-next b);

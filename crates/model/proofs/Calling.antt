@@ -91,7 +91,7 @@ pub pays-good : (z : Sizes) (k : Call) (s : State) (d : Device) (plain : List �
 unfolding isDone
 pays-good z k s d plain e g = record {
   cuts = λ n h. rw (feed-not z k Cut plain refl) (along-take z (Sound z plain) d (planOf k s d .stores) (g .0) n);
-  whole = rw e (outside z (planOf k s d .state) _ plain (g .1));
+  whole = λ counts. rw e (outside z (planOf k s d .state) _ plain (g .1) counts);
 }
 
 pub erase-pays : (z : Sizes) → Pays z eraseCall

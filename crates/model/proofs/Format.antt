@@ -117,5 +117,5 @@ module _ (z : Sizes) (fits : limits z ≡ true) (d : Device) (lent : lengths z d
   }
 
   pub formatted-inv : Inv z (format z .state) (applyAll z d (format z .stores)) (d .disk)
-  unfolding format
-  formatted-inv = outside z (format z .state) wiped (d .disk) formatted-inside
+  unfolding format all
+  formatted-inv = outside z (format z .state) wiped (d .disk) formatted-inside refl

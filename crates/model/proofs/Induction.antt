@@ -5,13 +5,13 @@ use mathlib.Core.Bool.{true, false, true≢false}
 use mathlib.Core.List.{List, [], _∷_}
 use lib.ListN.{length}
 use lib.Dec.{eqb}
-use Rattle.lists.specs.Lists.{part}
+use Rattle.lists.specs.Lists.{all, part}
 use Rattle.model.specs.declared.Sizes.{Sizes}
 use Rattle.model.specs.declared.Answer.the-variants.{Done, Cut, Refused}
 use Rattle.model.specs.Tests.{firstFailed}
 use Rattle.model.specs.Sizes.{Device, limits, lengths}
 use Rattle.model.specs.Stores.{applyAll}
-use Rattle.model.specs.State.{State, stopped}
+use Rattle.model.specs.State.{State, stopped, countAgrees}
 use Rattle.model.specs.Operations.{format}
 use Rattle.model.specs.Calls.{Call, formatCall, readCall, writeCall, eraseCall, drainCall, recoverCall, Outcome, lentTests, runningTests, tests, refusal, isDone, sizesOf, planOf, doneAnswer, readBuffer, turnedDown, call}
 use Rattle.model.specs.Promise.{Lent, whole, other, Item, MayStand, MayBeLent, lentOf, leftOf, diskPlace, feed, isRefused, Kept, PartKept, Claim, Throughout, Promised}
@@ -97,9 +97,10 @@ module _ (z : Sizes) (fits-limits : limits z ≡ true) where
   kept-part plain drainCall part o e = tt
   kept-part plain (recoverCall y) part o e = tt
 
-  -- what every call owes, and what a read's buffer owes
+  -- what every call owes, the counts that it keeps, and what a read's buffer owes
   pub record Owing : Type 0 where
     pub pays : (k : Call) → MayStand z k → Pays z k
+    pub counts : (k : Call) (s : State) (d : Device) → sizesOf k s ≡ z → refusal k s d ≡ 0 → all (countAgrees z (applyAll z d (planOf k s d .stores))) (planOf k s d .state .writes) ≡ true
     pub reads : (b off : ℕ) (buffer : List ℕ) (s : State) (d : Device) (plain : List ℕ) → Inv z s d plain → refusal (readCall b off buffer) s d ≡ 0
         → readBuffer (readCall b off buffer) s d ≡ part plain (diskPlace z b off) (length buffer)
 
@@ -141,7 +142,7 @@ module _ (z : Sizes) (fits-limits : limits z ≡ true) where
       after-done : refusal k s d ≡ 0 → After (carriedOut n k s d)
       after-done r = record {
         kept = kept-done plain k s d _ i r refl refl;
-        inv = rw (feed-done z k s plain, sizes-of z k s may (i .sizes-are)) (owing .pays k may s d plain fits-limits i r .whole);
+        inv = rw (feed-done z k s plain, sizes-of z k s may (i .sizes-are)) (owing .pays k may s d plain fits-limits i r .whole (owing .counts k s d (sizes-of z k s may (i .sizes-are)) r));
       }
 
       after-call : After (call n k s d)

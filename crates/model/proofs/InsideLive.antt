@@ -1,7 +1,7 @@
 -- Between calls and inside a call: a running state that is Live is Inside, and one that is Inside is Live.
 use Prim.Native.Nat.{ℕ, _-_, _*_, _≤_, _<_}
 use mathlib.Core.Path.{_≡_, refl, sym, ap, _∙_, subst}
-use mathlib.Core.Bool.{true}
+use mathlib.Core.Bool.{Bool, true, _&&_}
 use mathlib.Core.Option.{none}
 use mathlib.Core.List.{List, [], _∷_}
 use native.Mathlib.Omega.{arith}
@@ -19,7 +19,7 @@ use Rattle.model.specs.Sizes.{Device, bucketSize, body}
 use Rattle.model.specs.Stores.{tagOf}
 use Rattle.model.specs.Spare.{blank}
 use Rattle.model.specs.Image.{backOf, isWrite, complete, pageBlank, blanks}
-use Rattle.model.specs.State.{State, cacheOf, backs, queued, isBelow, onceIn, eachOnce, readAgrees, writeAgrees, allBlank, topEpoch, stateFits}
+use Rattle.model.specs.State.{State, cacheOf, backs, queued, isBelow, onceIn, eachOnce, readAgrees, countAgrees, writeAgrees, allBlank, topEpoch, stateFits}
 use Rattle.model.proofs.Safe.{holdsOf, Chip, Live, Inv}
 use Rattle.model.proofs.Tags.{blank-ff, blank-true}
 use Rattle.model.proofs.Formed.{epoch-top, top-least}
@@ -34,6 +34,11 @@ all-true : (l : List Entry) → all (λ e. true) l ≡ true
 unfolding all
 all-true [] = refl
 all-true (e ∷ l) = all-true l
+
+all-both : (t u : Entry → Bool) (l : List Entry) → all t l ≡ true → all u l ≡ true → all (λ e. t e && u e) l ≡ true
+unfolding all
+all-both t u [] h k = refl
+all-both t u (e ∷ l) h k = and-true (and-true (and-left (t e) (all t l) h) (and-left (u e) (all u l) k)) (all-both t u l (and-right (t e) (all t l) h) (and-right (u e) (all u l) k))
 
 -- ---- into a call
 
@@ -115,7 +120,7 @@ inside z s d plain i run =
 
 -- ---- out of a call
 
-module _ (s : State) (d : Device) (plain : List ℕ) (j : Inside (s .sizes) plain s d) where
+module _ (s : State) (d : Device) (plain : List ℕ) (j : Inside (s .sizes) plain s d) (counts : all (countAgrees (s .sizes) d) (s .writes) ≡ true) where
   once-test : eachOnce (body (s .sizes)) (queued s) ≡ true
   unfolding eachOnce isBelow onceIn
   once-test =
@@ -131,9 +136,12 @@ module _ (s : State) (d : Device) (plain : List ℕ) (j : Inside (s .sizes) plai
 
   writes-test : all (writeAgrees (s .sizes) d) (s .writes) ≡ true
   unfolding writeAgrees priorityFits
-  writes-test = all-maps (writeAgrees (s .sizes) d) (priorityFits (s .sizes)) (s .writes) (j .writes .write-once) (j .writes .priorities) (λ e m q.
+  writes-test = all-maps (writeAgrees (s .sizes) d) (λ e. priorityFits (s .sizes) e && countAgrees (s .sizes) d e) (s .writes) (j .writes .write-once)
+      (all-both (priorityFits (s .sizes)) (countAgrees (s .sizes) d) (s .writes) (j .writes .priorities) counts) (λ e m q.
       let h = j .writes .logs (e .back) (e .cache) m in
-      every-more _ _ (h .0) (every-more _ _ (eq-eqb _ _ (h .1)) (every-more _ _ q every-none)))
+      let priority = and-left (priorityFits (s .sizes) e) (countAgrees (s .sizes) d e) q in
+      let count = and-right (priorityFits (s .sizes) e) (countAgrees (s .sizes) d e) q in
+      every-more _ _ (h .0) (every-more _ _ (eq-eqb _ _ (h .1)) (every-more _ _ priority (every-more _ _ count every-none))))
 
   free-test : all (allBlank (s .sizes) d) (s .free) ≡ true
   unfolding allBlank blanks pageBlank
@@ -165,8 +173,8 @@ module _ (s : State) (d : Device) (plain : List ℕ) (j : Inside (s .sizes) plai
     newest-writes = λ b h x i ne. j .writes .newest-logs b (cacheOf b (s .writes)) (record { held = h; is = refl }) x i ne;
   }
 
-pub live : (z : Sizes) (s : State) (d : Device) (plain : List ℕ) → Inside z plain s d → Live z s d plain
-live z s d plain j = subst (λ (y : Sizes). Inside y plain s d → Live y s d plain) (j .sizes-are) (λ i. live-of s d plain i) j
+pub live : (z : Sizes) (s : State) (d : Device) (plain : List ℕ) → Inside z plain s d → all (countAgrees z d) (s .writes) ≡ true → Live z s d plain
+live z s d plain j = subst (λ (y : Sizes). Inside y plain s d → all (countAgrees y d) (s .writes) ≡ true → Live y s d plain) (j .sizes-are) (λ i counts. live-of s d plain i counts) j
 
-pub outside : (z : Sizes) (s : State) (d : Device) (plain : List ℕ) → Inside z plain s d → Inv z s d plain
-outside z s d plain j = record { sizes-are = j .sizes-are; plain-length = j .plain-length; sound = sound z plain s d j; live = λ run. live z s d plain j }
+pub outside : (z : Sizes) (s : State) (d : Device) (plain : List ℕ) → Inside z plain s d → all (countAgrees z d) (s .writes) ≡ true → Inv z s d plain
+outside z s d plain j counts = record { sizes-are = j .sizes-are; plain-length = j .plain-length; sound = sound z plain s d j; live = λ run. live z s d plain j counts }

@@ -61,7 +61,9 @@ pub mod Write
 pub mod Tested
 pub mod StoresMade
 pub mod Programs
+pub mod KeptCounts
 pub mod ProgramsPool
 pub mod ProgramsRise
+pub mod Counts
 pub mod LogComesLast
 pub mod Allocations

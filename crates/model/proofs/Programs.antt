@@ -1,5 +1,5 @@
 -- Runs of stores whose programs rise: no programs at all, one run after another, the pages of a log.
-use Prim.Native.Nat.{ℕ, zero, suc, _+_, _≤_, _<_}
+use Prim.Native.Nat.{ℕ, zero, suc, _+_, _-_, _≤_, _<_}
 use mathlib.Core.Path.{_≡_, refl, sym, ap, _∙_}
 use mathlib.Core.Logic.{_≢_}
 use mathlib.Core.Bool.{Bool, true, false, true≢false}
@@ -9,11 +9,13 @@ use native.Mathlib.Decide.{ℕ-discrete}
 use lib.ListN.{length}
 use Rattle.lists.specs.Lists.{row, all, concatMap}
 use Rattle.lists.proofs.Tests.{and-true}
+use Rattle.lists.proofs.Rows.{count-from}
 use Rattle.lists.proofs.Arrays.{all-append}
 use Rattle.model.specs.declared.Sizes.{Sizes}
 use Rattle.model.specs.Sizes.{Device, pagesFor}
 use Rattle.model.specs.Stores.{Store, program, erase, unit, apply, applyAll, tagOf, pageBytes, unitStore, unitStores}
 use Rattle.model.specs.Spare.{blank, tagBytes}
+use Rattle.model.specs.Image.{pageBlank, blanks}
 use Rattle.model.specs.Steps.{logStore, logStores}
 use Rattle.model.specs.StoresMade.{Rising}
 use Rattle.model.proofs.Tags.{length-tag, blank-tag}
@@ -52,14 +54,14 @@ unfolding row all
 all-row t zero f h = refl
 all-row t (suc n) f h = all-joined t (row n f) (f n ∷ []) (all-row t n f h) (and-true (h n) refl)
 
+pub all-concat : (t : Store → Bool) (f : ℕ → List Store) → ((b : ℕ) → all t (f b) ≡ true) → (l : List ℕ) → all t (concatMap f l) ≡ true
+unfolding concatMap all
+all-concat t f h [] = refl
+all-concat t f h (b ∷ l) = all-joined t (f b) (concatMap f l) (h b) (all-concat t f h l)
+
 pub none-units : (z : Sizes) (b : ℕ) (bytes : List ℕ) → all isNoProgram (unitStores z b bytes) ≡ true
 unfolding unitStores unitStore isNoProgram
 none-units z b bytes = all-row isNoProgram (z .p) (unitStore z b bytes) (λ u. refl)
-
-pub none-concat : (f : ℕ → List Store) → ((b : ℕ) → all isNoProgram (f b) ≡ true) → (l : List ℕ) → all isNoProgram (concatMap f l) ≡ true
-unfolding concatMap all
-none-concat f h [] = refl
-none-concat f h (b ∷ l) = all-joined isNoProgram (f b) (concatMap f l) (h b) (none-concat f h l)
 
 pub none-erase : (l : List ℕ) → all isNoProgram (map erase l) ≡ true
 unfolding all isNoProgram
@@ -68,21 +70,29 @@ none-erase (c ∷ l) = none-erase l
 
 -- ---- the pages of a log
 
-module _ (z : Sizes) (c first k t b off : ℕ) (bytes : List ℕ) (hc : c < z .c) (hk : k < 4) (fit : first + pagesFor z (length bytes) ≤ z .p) (d₀ : Device) where
-  abbrev page : ℕ → Store
-  page o = program c (first + o) (pageBytes z bytes o) (tagBytes k o (pagesFor z (length bytes)) t b off (length bytes))
-
-  -- after o of its pages
+module _ (z : Sizes) (c first : ℕ) (d₀ : Device) where
+  -- after o of its pages in the bucket c, the first of them page `first` there
   pub record Stage (o : ℕ) (d : Device) : Type 0 where
     pub lens : Lengths z d
     pub used : (i : ℕ) → i < first + o → blank (tagOf z d c i) ≡ false
     pub rest : (i : ℕ) → first + o ≤ i → i < z .p → blank (tagOf z d c i) ≡ true
     pub others : (x i : ℕ) → x ≢ c → i < z .p → tagOf z d x i ≡ tagOf z d₀ x i
 
+  pub stage-blanks : (o : ℕ) (d : Device) → first + o ≤ z .p → Stage o d → blanks z d c ≡ z .p - (first + o)
+  unfolding blanks pageBlank
+  stage-blanks o d h s = count-from (first + o) (z .p) (pageBlank z d c) h (s .used) (s .rest)
+
+module _ (z : Sizes) (c first k t b off : ℕ) (bytes : List ℕ) (hc : c < z .c) (hk : k < 4) (fit : first + pagesFor z (length bytes) ≤ z .p) (d₀ : Device) where
+  abbrev page : ℕ → Store
+  page o = program c (first + o) (pageBytes z bytes o) (tagBytes k o (pagesFor z (length bytes)) t b off (length bytes))
+
+  abbrev At : ℕ → Device → Type 0
+  At o d = Stage z c first d₀ o d
+
   page-fits : (o : ℕ) → o < pagesFor z (length bytes) → Fits z (page o)
   page-fits o h = (hc, omega arith, length-page z bytes o, length-tag k o (pagesFor z (length bytes)) t b off (length bytes))
 
-  next : (o : ℕ) (d : Device) → o < pagesFor z (length bytes) → Stage o d → Stage (suc o) (apply z d (page o))
+  next : (o : ℕ) (d : Device) → o < pagesFor z (length bytes) → At o d → At (suc o) (apply z d (page o))
   next o d h s = record {
     lens = lengths-kept z d (s .lens) (page o) (page-fits o h);
     used = λ i hi. now i hi (ℕ-discrete i (first + o));
@@ -94,18 +104,18 @@ module _ (z : Sizes) (c first k t b off : ℕ) (bytes : List ℕ) (hc : c < z .c
       now i hi (yes q) = rw q (ap blank (tag-programmed z d (s .lens) c (first + o) _ _ (page-fits o h)) ∙ blank-tag k o (pagesFor z (length bytes)) t b off (length bytes) hk)
       now i hi (no ne) = ap blank (tag-other-page z d (s .lens) c (first + o) _ _ (page-fits o h) i ne) ∙ s .used i (omega arith)
 
-  module _ (start : Stage 0 d₀) where
+  module _ (start : Stage z c first d₀ 0 d₀) where
     rises : (n : ℕ) → n ≤ pagesFor z (length bytes) → Rising z d₀ (row n page)
     unfolding row Rising
     rises zero h = tt
     rises (suc n) h =
-        let s = row-end z Stage page n (λ o d q. next o d (omega arith)) d₀ start in
+        let s = row-end z At page n (λ o d q. next o d (omega arith)) d₀ start in
         rising-append z (row n page) (page n ∷ []) d₀ (rises n (omega arith)) (s .rest (first + n) (omega arith) (omega arith), s .used, tt)
 
     pub log-rises : Rising z d₀ (logStores z c first k t b off bytes)
     unfolding logStores logStore
     log-rises = rises (pagesFor z (length bytes)) (omega arith)
 
-    pub log-stage : Stage (pagesFor z (length bytes)) (applyAll z d₀ (logStores z c first k t b off bytes))
+    pub log-stage : Stage z c first d₀ (pagesFor z (length bytes)) (applyAll z d₀ (logStores z c first k t b off bytes))
     unfolding logStores logStore
-    log-stage = row-end z Stage page (pagesFor z (length bytes)) next d₀ start
+    log-stage = row-end z At page (pagesFor z (length bytes)) next d₀ start

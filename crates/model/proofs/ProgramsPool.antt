@@ -1,105 +1,124 @@
 -- The buckets that a step may take, and steps whose programs rise.
 use Prim.Native.Nat.{ℕ, _+_, _*_, _≤_, _<_}
 use mathlib.Core.Path.{_≡_, refl, sym, ap, _∙_, subst}
-use mathlib.Core.Logic.{_⊎_, inl, inr}
+use mathlib.Core.Logic.{_⊎_, inl, inr, _≢_}
 use mathlib.Core.Bool.{true, false}
 use mathlib.Core.List.{List, [], _∷_, _++_}
 use native.Mathlib.Omega.{arith}
-use native.Mathlib.Decide.{decLt}
+use native.Mathlib.Decide.{ℕ-discrete}
 use lib.ListN.{length, drop}
-use Rattle.lists.specs.Lists.{head, empty, times, part, ff}
+use Rattle.lists.specs.Lists.{all, head, empty, times, part, ff}
 use Rattle.lists.proofs.Tests.{true-or-false}
 use Rattle.lists.proofs.Parts.{length-part-fits}
-use Rattle.lists.proofs.Counts.{times-only, empty-times, below-grown, times-self, times-one, times-append, times-rest}
+use Rattle.lists.proofs.Counts.{times-self, times-other, times-append, times-rest}
 use Rattle.model.specs.declared.Sizes.{Sizes}
-use Rattle.model.specs.declared.Entry.{Entry}
 use Rattle.model.specs.Sizes.{Device, bucketSize, pagesFor, body}
 use Rattle.model.specs.Stores.{erase, apply, applyAll, tagOf, unitStore, unitStores}
 use Rattle.model.specs.Spare.{blank}
-use Rattle.model.specs.State.{State, moved, holds, cacheOf, cachesOf}
+use Rattle.model.specs.State.{State, moved, entry, cachesOf, without, caches, countAgrees}
 use Rattle.model.specs.Steps.{Plan, Step, nothing, _then_, eraseStep, makeRoom, taken, takeCopy, logStores, fillCopy, copy, writeOut, freed}
 use Rattle.model.specs.StoresMade.{Rising}
 use Rattle.model.proofs.Limits.{on-chip}
 use Rattle.model.proofs.Tags.{blank-ff}
 use Rattle.model.proofs.Frames.{Lengths, row-fits, place-fits, lengths-kept, tag-erased, tag-unit}
+use Rattle.model.proofs.Show.{same-erase}
 use Rattle.model.proofs.Prefix.{applyAll-append, row-end}
-use Rattle.model.proofs.Queues.{Maps, cachesOf-none, cachesOf-one}
+use Rattle.model.proofs.Queues.{times-left}
+use Rattle.model.proofs.QueuesGrown.{times-grown}
+use Rattle.model.proofs.KeptCounts.{counts-stay}
+use Rattle.model.proofs.Inside.{places}
 use Rattle.model.proofs.Steps.{room-there}
 use Rattle.model.proofs.Programs.{Stage, log-rises, log-stage, rising-append, none-rise, none-units}
 
--- the buckets that a queue gives up
-pub given-up : (l : List Entry) (b n : ℕ) → ((c : ℕ) → Maps l b c → c < n) → (c : ℕ) → 1 ≤ times c (cachesOf b l) → c < n
-unfolding times
-given-up l b n h c t = go (true-or-false (holds b l))
-  where
-    go : (holds b l ≡ true) ⊎ (holds b l ≡ false) → c < n
-    go (inr q) = absurd (omega (arith, ap (times c) (cachesOf-none l b q)))
-    go (inl q) =
-        let m : Maps l b (cacheOf b l) = record { held = q; is = refl } in
-        rw (times-only c (cacheOf b l) (omega (arith, ap (times c) (cachesOf-one l b (cacheOf b l) m)))) (h (cacheOf b l) m)
-
 module _ (z : Sizes) where
-  -- GC and free queue are on the chip, and the free buckets are blank
-  pub record Pool (s : State) (d : Device) : Type 0 where
+  -- kept counts are true
+  pub record Counted (s : State) (d : Device) : Type 0 where
     pub at-sizes : s .sizes ≡ z
+    pub counts : all (countAgrees z d) (s .writes) ≡ true
+
+  -- each cache bucket of a queue stands there once and is on the chip, the free ones are blank, and kept counts are true
+  pub record Pool (s : State) (d : Device) : Type 0 where
+    pub counted : Counted s d
     pub lens : Lengths z d
-    pub in-chip : (c : ℕ) → 1 ≤ times c (s .gc) + times c (s .free) → c < body z
-    pub once : (c : ℕ) → times c (s .free) ≤ 1
+    pub in-chip : (c : ℕ) → 1 ≤ places s c → c < body z
+    pub once : (c : ℕ) → places s c ≤ 1
     pub blanks : (c : ℕ) → 1 ≤ times c (s .free) → (k : ℕ) → k < z .p → tagOf z d c k ≡ ff 16
 
-  pub record Rises (p : Plan) (d : Device) : Type 0 where
+  -- the programs of a plan rise, and Q holds of what it leaves
+  pub record Rises (Q : State → Device → Type 0) (p : Plan) (d : Device) : Type 0 where
     pub rising : Rising z d (p .stores)
-    pub pool : Pool (p .state) (applyAll z d (p .stores))
+    pub left : Q (p .state) (applyAll z d (p .stores))
 
-  pub then-rises : (f g : Step) (s : State) (d : Device) → s .sizes ≡ z → Rises (f s d) d → Rises (g (f s d .state) (applyAll z d (f s d .stores))) (applyAll z d (f s d .stores)) → Rises ((f then g) s d) d
+  pub then-rises : (P Q : State → Device → Type 0) (f g : Step) (s : State) (d : Device) → s .sizes ≡ z → Rises P (f s d) d
+      → Rises Q (g (f s d .state) (applyAll z d (f s d .stores))) (applyAll z d (f s d .stores)) → Rises Q ((f then g) s d) d
   unfolding _then_
-  then-rises f g s d q a b =
-      subst (λ (y : Sizes). Rises (record { stores = f s d .stores ++ g (f s d .state) (applyAll y d (f s d .stores)) .stores; state = g (f s d .state) (applyAll y d (f s d .stores)) .state }) d) (sym q) (record {
+  then-rises P Q f g s d q a b =
+      subst (λ (y : Sizes). Rises Q (record { stores = f s d .stores ++ g (f s d .state) (applyAll y d (f s d .stores)) .stores; state = g (f s d .state) (applyAll y d (f s d .stores)) .state }) d) (sym q) (record {
         rising = rising-append z (f s d .stores) (g (f s d .state) (applyAll z d (f s d .stores)) .stores) d (a .rising) (b .rising);
-        pool = subst (λ (e : Device). Pool (g (f s d .state) (applyAll z d (f s d .stores)) .state) e) (sym (applyAll-append z d (f s d .stores) (g (f s d .state) (applyAll z d (f s d .stores)) .stores))) (b .pool);
+        left = subst (λ (e : Device). Q (g (f s d .state) (applyAll z d (f s d .stores)) .state) e) (sym (applyAll-append z d (f s d .stores) (g (f s d .state) (applyAll z d (f s d .stores)) .stores))) (b .left);
       })
 
-  pub nothing-rises : (s : State) (d e : Device) → Pool s d → Rises (nothing s e) d
+  pub nothing-rises : (Q : State → Device → Type 0) (s : State) (d e : Device) → Q s d → Rises Q (nothing s e) d
   unfolding nothing applyAll Rising
-  nothing-rises s d e pool = record { rising = tt; pool = pool }
+  nothing-rises Q s d e h = record { rising = tt; left = h }
 
-  -- another GC queue, and no other free buckets
-  pub pool-moved : (s t : State) (d e : Device) → Pool s d → t .sizes ≡ s .sizes → Lengths z e → ((c : ℕ) → times c (t .free) ≤ times c (s .free)) → ((c : ℕ) → 1 ≤ times c (t .gc) → c < body z)
-      → ((c : ℕ) → 1 ≤ times c (t .free) → (k : ℕ) → k < z .p → tagOf z e c k ≡ tagOf z d c k) → Pool t e
-  pool-moved s t d e pool q L fewer below same = record {
-    at-sizes = q ∙ pool .at-sizes;
+  -- other queues, with no bucket that was in none, and a device that shows alike the buckets of which Pool speaks
+  pub pool-moved : (s t : State) (d e : Device) → Pool s d → t .sizes ≡ s .sizes → Lengths z e → ((c : ℕ) → places t c ≤ places s c) → ((c : ℕ) → times c (t .free) ≤ times c (s .free))
+      → ((c : ℕ) → 1 ≤ times c (caches (t .writes)) + times c (t .free) → (k : ℕ) → k < z .p → tagOf z e c k ≡ tagOf z d c k) → all (countAgrees z d) (t .writes) ≡ true → Pool t e
+  pool-moved s t d e pool q L fewer fewer-free same counts = record {
+    counted = record { at-sizes = q ∙ pool .counted .at-sizes; counts = counts-stay z d e (t .writes) (λ c h. same c (omega arith)) counts };
     lens = L;
-    in-chip = λ c q. go c q (decLt 0 (times c (t .gc)));
+    in-chip = λ c h. pool .in-chip c (omega (arith, fewer c));
     once = λ c. omega (arith, fewer c, pool .once c);
-    blanks = λ c q k hk. same c q k hk ∙ pool .blanks c (omega (arith, fewer c)) k hk;
+    blanks = λ c h k hk. same c (omega arith) k hk ∙ pool .blanks c (omega (arith, fewer-free c)) k hk;
   }
+
+  -- ---- Erase step, and Allocate
+
+  -- the GC head erased
+  module _ (s : State) (d : Device) (pool : Pool s d) (some : empty (s .gc) ≡ false) where
+    count : (c : ℕ) → times c (s .gc) ≡ times c (head (s .gc) ∷ []) + times c (drop 1 (s .gc))
+    count c = times-rest c (s .gc) some
+
+    on : head (s .gc) < z .c
+    on = on-chip z (head (s .gc)) (pool .in-chip (head (s .gc)) (omega (arith, count (head (s .gc)), times-self (head (s .gc)))))
+
+    other : (c : ℕ) → c ≢ head (s .gc) → (k : ℕ) → k < z .p → tagOf z (apply z d (erase (head (s .gc)))) c k ≡ tagOf z d c k
+    other c ne = same-erase z d (pool .lens) (head (s .gc)) on c ne .tags-same
+
+    blank-now : (c : ℕ) → 1 ≤ times c (s .free ++ (head (s .gc) ∷ [])) → Dec (c ≡ head (s .gc)) → (k : ℕ) → k < z .p → tagOf z (apply z d (erase (head (s .gc)))) c k ≡ ff 16
+    blank-now c h (yes q) k hk = rw q (tag-erased z d (pool .lens) (head (s .gc)) on k hk)
+    blank-now c h (no ne) k hk = other c ne k hk ∙ pool .blanks c (omega (arith, times-append c (s .free) (head (s .gc) ∷ []), times-other c (head (s .gc)) ne)) k hk
+
+    erased : Pool (moved s (s .reads) (s .writes) (drop 1 (s .gc)) (s .free ++ (head (s .gc) ∷ []))) (apply z d (erase (head (s .gc))))
+    unfolding moved
+    erased = record {
+      counted = record {
+        at-sizes = pool .counted .at-sizes;
+        counts = counts-stay z d (apply z d (erase (head (s .gc)))) (s .writes)
+            (λ c h. other c (λ q. omega (arith, count c, pool .once c, ap (λ (x : ℕ). times c (x ∷ [])) (sym q), times-self c))) (pool .counted .counts);
+      };
+      lens = lengths-kept z d (pool .lens) (erase (head (s .gc))) on;
+      in-chip = λ c h. pool .in-chip c (omega (arith, count c, times-append c (s .free) (head (s .gc) ∷ [])));
+      once = λ c. omega (arith, count c, times-append c (s .free) (head (s .gc) ∷ []), pool .once c);
+      blanks = λ c h. blank-now c h (ℕ-discrete c (head (s .gc)));
+    }
+
+  pub erase-rises : (s : State) (d : Device) → Pool s d → Rises Pool (eraseStep z s d) d
+  unfolding eraseStep freed nothing moved Rising applyAll
+  erase-rises s d pool = go (true-or-false (empty (s .gc)))
     where
-      go : (c : ℕ) → 1 ≤ times c (t .gc) + times c (t .free) → Dec (0 < times c (t .gc)) → c < body z
-      go c q (yes u) = below c u
-      go c q (no u) = pool .in-chip c (omega (arith, fewer c))
+      go : (empty (s .gc) ≡ true) ⊎ (empty (s .gc) ≡ false) → Rises Pool (eraseStep z s d) d
+      go (inl e) = rw e (record { rising = tt; left = pool })
+      go (inr e) = rw e (record { rising = tt; left = erased s d pool e })
 
-  -- ---- Allocate
-
-  pub room-rises : (s : State) (d : Device) → Pool s d → Rises (makeRoom z s d) d
-  unfolding makeRoom eraseStep freed nothing moved Rising applyAll
-  room-rises s d pool = go (true-or-false (empty (s .free))) (true-or-false (empty (s .gc)))
+  pub room-rises : (s : State) (d : Device) → Pool s d → Rises Pool (makeRoom z s d) d
+  unfolding makeRoom
+  room-rises s d pool = go (true-or-false (empty (s .free)))
     where
-      erased : empty (s .free) ≡ true → empty (s .gc) ≡ false → Pool (moved s (s .reads) (s .writes) (drop 1 (s .gc)) (s .free ++ (head (s .gc) ∷ []))) (apply z d (erase (head (s .gc))))
-      erased f g = record {
-        at-sizes = pool .at-sizes;
-        lens = lengths-kept z d (pool .lens) (erase (head (s .gc))) (on-chip z (head (s .gc)) g-in);
-        in-chip = λ c q. pool .in-chip c (omega (arith, times-rest c (s .gc) g, times-append c (s .free) (head (s .gc) ∷ [])));
-        once = λ c. omega (arith, times-append c (s .free) (head (s .gc) ∷ []), empty-times (s .free) f c, times-one c (head (s .gc)));
-        blanks = λ c q k hk. rw (times-only c (head (s .gc)) (omega (arith, times-append c (s .free) (head (s .gc) ∷ []), empty-times (s .free) f c))) (tag-erased z d (pool .lens) (head (s .gc)) (on-chip z (head (s .gc)) g-in) k hk);
-      }
-        where
-          g-in : head (s .gc) < body z
-          g-in = pool .in-chip (head (s .gc)) (omega (arith, times-rest (head (s .gc)) (s .gc) g, times-self (head (s .gc))))
-
-      go : (empty (s .free) ≡ true) ⊎ (empty (s .free) ≡ false) → (empty (s .gc) ≡ true) ⊎ (empty (s .gc) ≡ false) → Rises (makeRoom z s d) d
-      go (inr f) q = rw f (record { rising = tt; pool = pool })
-      go (inl f) (inl g) = rw (f, g) (record { rising = tt; pool = pool })
-      go (inl f) (inr g) = rw (f, g) (record { rising = tt; pool = erased f g })
+      go : (empty (s .free) ≡ true) ⊎ (empty (s .free) ≡ false) → Rises Pool (makeRoom z s d) d
+      go (inl f) = rw f (erase-rises s d pool)
+      go (inr f) = rw f (nothing-rises Pool s d d pool)
 
   -- ---- a log in the free head
 
@@ -113,7 +132,7 @@ module _ (z : Sizes) where
     fits-there : 0 + pagesFor z (length bytes) ≤ z .p
     fits-there = omega arith
 
-    start : Stage z (head (s .free)) 0 k e b off bytes c-in hk fits-there d 0 d
+    start : Stage z (head (s .free)) 0 d 0 d
     start = record {
       lens = pool .lens;
       used = λ i h. absurd (omega arith);
@@ -124,37 +143,39 @@ module _ (z : Sizes) where
     pub taken-rises : Rising z d (logStores z (head (s .free)) 0 k e b off bytes)
     taken-rises = log-rises z (head (s .free)) 0 k e b off bytes c-in hk fits-there d start
 
-    pub taken-pool : (t : State) → t .sizes ≡ s .sizes → t .free ≡ drop 1 (s .free) → ((c : ℕ) → 1 ≤ times c (t .gc) → c < body z) → Pool t (applyAll z d (logStores z (head (s .free)) 0 k e b off bytes))
-    taken-pool t q free-is below =
-        let stage = log-stage z (head (s .free)) 0 k e b off bytes c-in hk fits-there d start in
-        pool-moved s t d (applyAll z d (logStores z (head (s .free)) 0 k e b off bytes)) pool q (stage .lens) (λ c. omega (arith, times-rest c (s .free) has-free, ap (times c) free-is)) below
-        (λ c q i hi. stage .others c i (λ eq. omega (arith, times-rest c (s .free) has-free, ap (times c) free-is, pool .once c, ap (λ (y : ℕ). times c (y ∷ [])) (sym eq), times-self c)) hi)
+    pub taken-stage : Stage z (head (s .free)) 0 d (pagesFor z (length bytes)) (applyAll z d (logStores z (head (s .free)) 0 k e b off bytes))
+    taken-stage = log-stage z (head (s .free)) 0 k e b off bytes c-in hk fits-there d start
+
+    -- a bucket that stands elsewhere
+    pub taken-other : (c : ℕ) → 1 ≤ times c (caches (s .writes)) + times c (drop 1 (s .free)) → (i : ℕ) → i < z .p → tagOf z (applyAll z d (logStores z (head (s .free)) 0 k e b off bytes)) c i ≡ tagOf z d c i
+    taken-other c h i hi = taken-stage .others c i (λ q. omega (arith, times-rest c (s .free) has-free, pool .once c, ap (λ (y : ℕ). times c (y ∷ [])) (sym q), times-self c)) hi
 
   -- ---- a copy
 
-  pub copy-rises : (s : State) (d : Device) → Pool s d → (empty (s .free) ≡ false) ⊎ (empty (s .gc) ≡ false) → ((b c : ℕ) → Maps (s .reads) b c → c < body z)
-      → (k b : ℕ) (bytes : List ℕ) → k < 4 → pagesFor z (length bytes) ≤ z .p → Rises (copy z k b bytes s d) d
-  unfolding copy fillCopy takeCopy taken moved
-  copy-rises s d pool some reads-in k b bytes hk fit =
+  pub copy-rises : (s : State) (d : Device) → Pool s d → (empty (s .free) ≡ false) ⊎ (empty (s .gc) ≡ false) → (k b : ℕ) (bytes : List ℕ) → k < 4 → pagesFor z (length bytes) ≤ z .p → Rises Pool (copy z k b bytes s d) d
+  unfolding copy fillCopy takeCopy taken moved entry
+  copy-rises s d pool some k b bytes hk fit =
       let room = room-rises s d pool in
       let roomy = room-there z s d some in
       let t = makeRoom z s d .state in
       let e = applyAll z d (makeRoom z s d .stores) in
-      then-rises (makeRoom z) (fillCopy z k b bytes) s d (pool .at-sizes) room
+      let stage = taken-stage t e (room .left) (roomy .has-free) k (t .next) b 0 bytes hk fit in
+      then-rises Pool Pool (makeRoom z) (fillCopy z k b bytes) s d (pool .counted .at-sizes) room
       (record {
-        rising = taken-rises t e (room .pool) (roomy .has-free) k (t .next) b 0 bytes hk fit;
-        pool = taken-pool t e (room .pool) (roomy .has-free) k (t .next) b 0 bytes hk fit (takeCopy b t) refl refl
-            (below-grown (body z) (t .gc) (cachesOf b (t .reads)) (λ c q. room .pool .in-chip c (omega arith)) (given-up (t .reads) b (body z) (λ c m. reads-in b c (rw (← roomy .reads-same) m))));
+        rising = taken-rises t e (room .left) (roomy .has-free) k (t .next) b 0 bytes hk fit;
+        left = pool-moved t (takeCopy b t) e _ (room .left) refl (stage .lens)
+            (λ c. omega (arith, times-rest c (t .free) (roomy .has-free), times-grown (entry b (head (t .free)) 0) (without b (t .reads)) c, times-left (t .reads) b c, times-append c (t .gc) (cachesOf b (t .reads))))
+            (λ c. omega (arith, times-rest c (t .free) (roomy .has-free))) (taken-other t e (room .left) (roomy .has-free) k (t .next) b 0 bytes hk fit) (room .left .counted .counts);
       })
 
   -- ---- units
 
-  pub units-rise : (s : State) (d : Device) → Pool s d → (b : ℕ) → b < z .b → (bytes : List ℕ) → length bytes ≡ bucketSize z → Rises (writeOut z b bytes s d) d
+  pub units-rise : (s : State) (d : Device) → Pool s d → (b : ℕ) → b < z .b → (bytes : List ℕ) → length bytes ≡ bucketSize z → Rises Pool (writeOut z b bytes s d) d
   unfolding writeOut unitStores unitStore bucketSize
   units-rise s d pool b hb bytes len = record {
     rising = none-rise z (unitStores z b bytes) (none-units z b bytes) d;
-    pool = let after = row-end z (λ o e. Lengths z e × ((c k : ℕ) → tagOf z e c k ≡ tagOf z d c k)) (unitStore z b bytes) (z .p) next d (pool .lens, λ c k. refl) in
-        pool-moved s s d (applyAll z d (unitStores z b bytes)) pool refl (after .0) (λ c. omega arith) (λ c q. pool .in-chip c (omega arith)) (λ c q k hk. after .1 c k);
+    left = let after = row-end z (λ o e. Lengths z e × ((c k : ℕ) → tagOf z e c k ≡ tagOf z d c k)) (unitStore z b bytes) (z .p) next d (pool .lens, λ c k. refl) in
+        pool-moved s s d (applyAll z d (unitStores z b bytes)) pool refl (after .0) (λ c. omega arith) (λ c. omega arith) (λ c q k hk. after .1 c k) (pool .counted .counts);
   }
     where
       next : (o : ℕ) (e : Device) → o < z .p → Lengths z e × ((c k : ℕ) → tagOf z e c k ≡ tagOf z d c k)

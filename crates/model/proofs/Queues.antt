@@ -170,6 +170,14 @@ maps-without-rest (e ∷ l) b b' c m = go (ℕ-discrete (e .back) b) (λ q. maps
 pub maps-without : (l : List Entry) (b b' c : ℕ) → Maps (without b l) b' c → (b ≢ b') × Maps l b' c
 maps-without l b b' c m = ((λ q. absent (absent-without l b) (rw (← q) at m)), maps-without-rest l b b' c m)
 
+-- one that was absent still is
+pub still-absent : (l : List Entry) (v b : ℕ) → holds b l ≡ false → holds b (without v l) ≡ false
+still-absent l v b n = go (true-or-false (holds b (without v l)))
+  where
+    go : (holds b (without v l) ≡ true) ⊎ (holds b (without v l) ≡ false) → holds b (without v l) ≡ false
+    go (inr q) = q
+    go (inl q) = absurd (absent n (maps-without l v b _ (record { held = q; is = refl }) .1))
+
 pub without-absent : (l : List Entry) (b : ℕ) → holds b l ≡ false → without b l ≡ l
 unfolding without keep
 without-absent [] b h = refl
@@ -189,6 +197,19 @@ times-without (e ∷ l) b ds c = go (ℕ-discrete (e .back) b) (times-without l 
     go (yes q) r =
         let n : holds b l ≡ false = rw (← q) (distinct-rest e l ds .1) in
         rw (without-here e l b q, cachesOf-here e l b q, without-absent l b n) (omega (arith, times-cons c (e .cache) (caches l)))
+    go (no ne) r =
+        rw (without-there e l b ne, cachesOf-there e l b ne)
+        (omega (arith, times-cons c (e .cache) (caches l), times-cons c (e .cache) (caches (without b l)), r))
+
+-- the same of any queue: its entries of b leave, and the first of them is counted
+pub times-left : (l : List Entry) (b c : ℕ) → times c (caches (without b l)) + times c (cachesOf b l) ≤ times c (caches l)
+unfolding caches cacheBucket holds without keep times
+times-left [] b c = rw (cachesOf-none [] b refl) (omega arith)
+times-left (e ∷ l) b c = go (ℕ-discrete (e .back) b) (times-left l b c)
+  where
+    go : Dec (e .back ≡ b) → times c (caches (without b l)) + times c (cachesOf b l) ≤ times c (caches l)
+        → times c (caches (without b (e ∷ l))) + times c (cachesOf b (e ∷ l)) ≤ times c (e .cache ∷ caches l)
+    go (yes q) r = rw (without-here e l b q, cachesOf-here e l b q) (omega (arith, times-cons c (e .cache) (caches l)))
     go (no ne) r =
         rw (without-there e l b ne, cachesOf-there e l b ne)
         (omega (arith, times-cons c (e .cache) (caches l), times-cons c (e .cache) (caches (without b l)), r))

@@ -117,10 +117,10 @@ module _ (t : Entry → Bool) where
   all-grown [] e h q = and-true q refl
   all-grown (x ∷ l) e h q = and-true (and-left (t x) (all t l) h) (all-grown l e (and-right (t x) (all t l) h) q)
 
-  pub all-map : (f : Entry → Entry) → ((e : Entry) → t e ≡ true → t (f e) ≡ true) → (l : List Entry) → all t l ≡ true → all t (map f l) ≡ true
+  pub all-map : (u : Entry → Bool) (f : Entry → Entry) → ((e : Entry) → t e ≡ true → u (f e) ≡ true) → (l : List Entry) → all t l ≡ true → all u (map f l) ≡ true
   unfolding all
-  all-map f k [] h = refl
-  all-map f k (e ∷ l) h = and-true (k e (and-left (t e) (all t l) h)) (all-map f k l (and-right (t e) (all t l) h))
+  all-map u f k [] h = refl
+  all-map u f k (e ∷ l) h = and-true (k e (and-left (t e) (all t l) h)) (all-map u f k l (and-right (t e) (all t l) h))
 
   -- a test of what the queue maps is a test of its entries
   pub maps-all : (l : List Entry) → distinct (backs l) ≡ true → all t l ≡ true → (b c : ℕ) → Maps l b c → (e : Entry) × (e .back ≡ b) × (e .cache ≡ c) × (t e ≡ true)
@@ -132,6 +132,16 @@ module _ (t : Entry → Bool) where
           → (e : Entry) × (e .back ≡ b) × (e .cache ≡ c) × (t e ≡ true)
       go (inl q) r = (e, q .0, q .1, and-left (t e) (all t l) h)
       go (inr q) r = r (q .1)
+
+  -- the record of b is one of a queue that holds b
+  pub held-record : (l : List Entry) (b : ℕ) → all t l ≡ true → holds b l ≡ true → t (recordOf b l) ≡ true
+  unfolding all holds recordOf
+  held-record [] b a h = absurd (true≢false (sym h))
+  held-record (e ∷ l) b a h = go (isOf b e) h (held-record l b (and-right (t e) (all t l) a))
+    where
+      go : (q : Bool) → (if q then true else holds b l) ≡ true → (holds b l ≡ true → t (recordOf b l) ≡ true) → t (if q then e else recordOf b l) ≡ true
+      go true g later = and-left (t e) (all t l) a
+      go false g later = later g
 
 -- a test by back-end and cache bucket, and one of the entries
 pub all-maps : (t u : Entry → Bool) (l : List Entry) → distinct (backs l) ≡ true → all u l ≡ true

@@ -127,5 +127,5 @@ module _ (z : Sizes) where
     write-once = ap distinct (backs-map f k l) ∙ w .write-once;
     logs = λ b c m. w .logs b c (maps-map f k l b c m);
     newest-logs = λ b c m. w .newest-logs b c (maps-map f k l b c m);
-    priorities = all-map priorityFits f t l (w .priorities);
+    priorities = all-map priorityFits priorityFits f t l (w .priorities);
   }

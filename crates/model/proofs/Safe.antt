@@ -7,7 +7,7 @@ use mathlib.Core.Option.{Option, none, some}
 use mathlib.Core.List.{List, [], _∷_, map}
 use lib.ListN.{length, take, getD}
 use lib.Dec.{leb, ltb, eqb}
-use Rattle.lists.specs.Lists.{if_then_else_, part}
+use Rattle.lists.specs.Lists.{if_then_else_, all, part}
 use Rattle.model.specs.declared.Sizes.{Sizes}
 use Rattle.model.specs.declared.Answer.the-variants.{Done, Cut}
 use Rattle.model.specs.declared.Entry.{Entry}
@@ -15,7 +15,7 @@ use Rattle.model.specs.Sizes.{Device, limits, lengths, bucketSize, body}
 use Rattle.model.specs.Stores.{Store, erase, apply, applyAll, tagOf, bucketBytes, diskBytes}
 use Rattle.model.specs.Spare.{offset, extent}
 use Rattle.model.specs.Image.{epochOf, wellFormed, backOf, isWrite, isDirty, complete, endsLog, logBytes}
-use Rattle.model.specs.State.{State, holds, cacheOf, topEpoch, stateFits, isMarked}
+use Rattle.model.specs.State.{State, holds, cacheOf, countAgrees, topEpoch, stateFits, isMarked}
 use Rattle.model.specs.Calls.{Call, refusal, planOf}
 use Rattle.model.specs.Promise.{feed}
 use Rattle.model.proofs.Views.{View, SafeAt}
@@ -110,10 +110,12 @@ module _ (z : Sizes) where
     pub sound : Sound plain d
     pub live : s .running ≡ true → Live s d plain
 
-  -- what a call that is not refused owes, to the plain disk as its answer feeds it: each cut, and the whole plan
+  -- what a call that is not refused owes, to the plain disk as its answer feeds it: each cut, and the whole plan. That its kept counts are true is
+  -- shown of every state, and given.
   pub record Owed (k : Call) (s : State) (d : Device) (plain : List ℕ) : Type 0 where
     pub cuts : (n : ℕ) → n < length (planOf k s d .stores) → Sound (feed z k Cut plain) (applyAll z d (take n (planOf k s d .stores)))
-    pub whole : Inv (planOf k s d .state) (applyAll z d (planOf k s d .stores)) (feed z k Done plain)
+    pub whole : all (countAgrees z (applyAll z d (planOf k s d .stores))) (planOf k s d .state .writes) ≡ true
+        → Inv (planOf k s d .state) (applyAll z d (planOf k s d .stores)) (feed z k Done plain)
 
   abbrev pub Pays : Call → Type 0
   Pays k = (s : State) (d : Device) (plain : List ℕ) → limits z ≡ true → Inv s d plain → refusal k s d ≡ 0 → Owed k s d plain

@@ -11,7 +11,7 @@ use Rattle.model.specs.declared.Entry.{Entry}
 use Rattle.model.specs.Sizes.{Device, pagesFor}
 use Rattle.model.specs.Spare.{writeKind, tagBytes}
 use Rattle.model.specs.Image.{merge}
-use Rattle.model.specs.State.{entry}
+use Rattle.model.specs.State.{entry, withPriority}
 use Rattle.model.specs.Operations.{halved, victim}
 use Rattle.model.specs.Tests.{firstFailed}
 use Rattle.model.specs.Calls.{placeTests}
@@ -61,8 +61,8 @@ pub record Table : Type 0 where
   pub K4 : firstFailed (placeTests small 0 16 1) ≡ 7
   pub K5 : pagesFor small 5 ≡ 2
   pub K6 : pagesFor small 4 ≡ 1
-  pub K7 : halved (entry 0 0 5) ≡ entry 0 0 2
-  pub K8 : halved (entry 0 0 1) ≡ entry 0 0 0
+  pub K7 : halved (entry 0 0 5) ≡ withPriority 2 (entry 0 0 5)
+  pub K8 : halved (entry 0 0 1) ≡ withPriority 0 (entry 0 0 1)
   pub K9 : merge pair oneLog 0 (replicate 8 0) ≡ 0 ∷ 1 ∷ 1 ∷ 1 ∷ 1 ∷ 0 ∷ 0 ∷ 0 ∷ []
   pub K9-repeated : merge pair oneLog 0 (merge pair oneLog 0 (replicate 8 0)) ≡ 0 ∷ 1 ∷ 1 ∷ 1 ∷ 1 ∷ 0 ∷ 0 ∷ 0 ∷ []
   -- "the smallest priority, then smallest epoch"

@@ -16,6 +16,7 @@ use Rattle.model.proofs.Read.{read-pays}
 use Rattle.model.proofs.Write.{write-pays}
 use Rattle.model.proofs.Drain.{drain-pays, drain-settles}
 use Rattle.model.proofs.Recover.{recover-pays}
+use Rattle.model.proofs.Counts.{counts-left}
 use Rattle.model.proofs.Induction.{Each, Owing, promised, throughout, formatted}
 use Rattle.model.proofs.Companions.{trusted, drained}
 
@@ -29,7 +30,7 @@ pays z drainCall m = drain-pays z
 pays z (recoverCall y) m = subst (λ (x : Sizes). Pays z (recoverCall x)) (sym m) (recover-pays z)
 
 owing : (z : Sizes) (fits : limits z ≡ true) → Owing z fits
-owing z fits = record { pays = pays z; reads = read-gives z fits }
+owing z fits = record { pays = pays z; counts = λ k s d e r. counts-left z k s d e r; reads = read-gives z fits }
 
 -- the invariant holds where the list starts
 start : (z : Sizes) (n : ℕ) (s : State) (d : Device) → call n (formatCall z) s d .answer ≡ Done

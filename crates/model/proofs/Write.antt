@@ -23,7 +23,7 @@ use Rattle.model.specs.Calls.{writeCall, tests, refusal, planOf, isDone}
 use Rattle.model.specs.Promise.{feed, diskPlace}
 use Rattle.model.proofs.Limits.{Limits, limits-of}
 use Rattle.model.proofs.Safe.{Inv, Owed, Pays}
-use Rattle.model.proofs.Queues.{Maps, absent, maps-here, holds-there, absent-without, maps-without, cachesOf-one, length-without}
+use Rattle.model.proofs.Queues.{Maps, maps-here, holds-there, absent-without, still-absent, cachesOf-one, length-without}
 use Rattle.model.proofs.Inside.{Inside}
 use Rattle.model.proofs.InsideLive.{inside, outside}
 use Rattle.model.proofs.Steps.{Good, nothing-good, room-good, room-made}
@@ -73,13 +73,6 @@ record Open (z : Sizes) (b : ℕ) (s t : State) : Type 0 where
   next-near : t .next ≤ s .next + 1
 
 module _ (z : Sizes) (B : Limits z) (plain : List ℕ) (s : State) (d : Device) (j : Inside z plain s d) (next-room : s .next ≤ lastEpoch) (b : ℕ) where
-  still-absent : (v : ℕ) → holds b (s .writes) ≡ false → holds b (without v (s .writes)) ≡ false
-  still-absent v n = go (true-or-false (holds b (without v (s .writes))))
-    where
-      go : (holds b (without v (s .writes)) ≡ true) ⊎ (holds b (without v (s .writes)) ≡ false) → holds b (without v (s .writes)) ≡ false
-      go (inr q) = q
-      go (inl q) = absurd (absent n (maps-without (s .writes) v b _ (record { held = q; is = refl }) .1))
-
   -- after v's bucket left
   module _ (v : ℕ) (h : holds v (s .writes) ≡ true) where
     maps-v : Maps (s .writes) v (cacheOf v (s .writes))
@@ -106,7 +99,7 @@ module _ (z : Sizes) (B : Limits z) (plain : List ℕ) (s : State) (d : Device) 
       go (inl h) q = rw h (evicts b h, opens b h (absent-without (s .writes) b))
       go (inr n) (inl q) =
           let v = victim-in z d (s .writes) (omega (arith, leb-true (z .w) (length (s .writes)) q, B .w-low)) in
-          rw (n, q) (evicts (victim z d (s .writes)) v, opens (victim z d (s .writes)) v (still-absent (victim z d (s .writes)) n))
+          rw (n, q) (evicts (victim z d (s .writes)) v, opens (victim z d (s .writes)) v (still-absent (s .writes) (victim z d (s .writes)) b n))
       go (inr n) (inr q) = rw (n, q) (nothing-good z plain s d d j, record { absent-now = n; fewer = leb-false (z .w) (length (s .writes)) q; next-near = omega arith })
 
   -- ---- the write
@@ -154,4 +147,4 @@ write-pays z b off bytes s d plain fit i r =
     own f i' =
         let pass = write-passed s d b off bytes r in
         let m = write-moves (s .sizes) (limits-of (s .sizes) f) plain s d (inside (s .sizes) s d plain i' (pass .0 .runs)) (pass .2) b off bytes (pass .1) in
-        record { cuts = m .cuts; whole = outside (s .sizes) _ _ _ (m .whole) }
+        record { cuts = m .cuts; whole = λ counts. outside (s .sizes) _ _ _ (m .whole) counts }

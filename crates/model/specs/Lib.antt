@@ -13,3 +13,4 @@ pub mod Promise
 pub mod Companions
 pub mod StoresMade
 pub mod Allocations
+pub mod Counts

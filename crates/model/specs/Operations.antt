@@ -22,17 +22,17 @@ lastEpoch = 4294967294
 
 -- ---- write
 
--- "all priorities are halved, rounding down"
+-- "all priorities are halved, rounding down"; the kept count is not
 unfoldable pub halved : Entry → Entry
 halved e = withPriority (e .priority / 2) e
 
--- b's record after a log: its priority, and no mark, since "a log .. clears the mark"
-unfoldable pub prioritised : ℕ → ℕ → Entry → Entry
-prioritised b p e = if isOf b e then entry b (e .cache) p else e
+-- b's record after a log that leaves it n blank pages; it has no mark, since "a log .. clears the mark"
+unfoldable pub prioritised : (b n : ℕ) → Entry → Entry
+prioritised b n e = if isOf b e then entry b (e .cache) n else e
 
 -- "Priority becomes the blank pages left."
-unfoldable pub recorded : (b priority : ℕ) → State → State
-recorded b p s = moved s (s .reads) (map (prioritised b p) (s .writes)) (s .gc) (s .free)
+unfoldable pub recorded : (b n : ℕ) → State → State
+recorded b n s = moved s (s .reads) (map (prioritised b n) (s .writes)) (s .gc) (s .free)
 
 -- "After every 16th accepted write since format or recovery all priorities are halved."
 unfoldable pub counted : State → State
@@ -40,8 +40,8 @@ counted s =
     let full = leb 15 (s .accepted) in
     numbered (moved s (s .reads) (if full then map halved (s .writes) else s .writes) (s .gc) (s .free)) (if full then 0 else s .accepted + 1) (s .next)
 
-unfoldable pub accept : (b priority : ℕ) → State → State
-accept b p s = counted (recorded b p s)
+unfoldable pub accept : (b n : ℕ) → State → State
+accept b n s = counted (recorded b n s)
 
 -- the free head is taken as b's Write bucket, last in the queue
 unfoldable pub takeWrite : ℕ → State → State

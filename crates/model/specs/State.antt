@@ -44,17 +44,17 @@ started z r w g f n = record { sizes = z; running = true; reads = r; writes = w;
 
 -- ---- queues of back-end buckets
 
--- a new record; it has no mark
-unfoldable pub entry : ℕ → ℕ → ℕ → Entry
-entry b c p = record { back = b; cache = c; priority = p; marked = false }
+-- a new record of a bucket with n blank pages: they are its priority, and their count is kept "beside the priority"; it has no mark
+unfoldable pub entry : ℕ → ℕ → (n : ℕ) → Entry
+entry b c n = record { back = b; cache = c; priority = n; blank = n; marked = false }
 
 -- the same record with another priority
 unfoldable pub withPriority : ℕ → Entry → Entry
-withPriority p e = record { back = e .back; cache = e .cache; priority = p; marked = e .marked }
+withPriority p e = record { back = e .back; cache = e .cache; priority = p; blank = e .blank; marked = e .marked }
 
 -- the same record with another mark
 unfoldable pub withMark : Bool → Entry → Entry
-withMark t e = record { back = e .back; cache = e .cache; priority = e .priority; marked = t }
+withMark t e = record { back = e .back; cache = e .cache; priority = e .priority; blank = e .blank; marked = t }
 
 unfoldable pub isOf : ℕ → Entry → Bool
 isOf b e = eqb (e .back) b
@@ -72,6 +72,10 @@ recordOf b (e ∷ l) = if isOf b e then e else recordOf b l
 -- its cache bucket, or 0
 unfoldable pub cacheOf : ℕ → List Entry → ℕ
 cacheOf b l = recordOf b l .cache
+
+-- the count of blank pages kept there, or 0
+unfoldable pub blankOf : ℕ → List Entry → ℕ
+blankOf b l = recordOf b l .blank
 
 -- its cache bucket, if it has one
 unfoldable pub cachesOf : ℕ → List Entry → List ℕ
@@ -125,9 +129,13 @@ module _ (z : Sizes) (d : Device) where
   unfoldable pub readAgrees : Entry → Bool
   readAgrees e = complete z d (e .cache) && eqb (backOf z d (e .cache)) (e .back)
 
-  -- a write queue's entry: the spare fields agree and the priority is not above P
+  -- the kept count is "the count worked out afresh from the spare areas"
+  unfoldable pub countAgrees : Entry → Bool
+  countAgrees e = eqb (e .blank) (blanks z d (e .cache))
+
+  -- a write queue's entry: the spare fields agree, the priority is not above P, and the kept count agrees
   unfoldable pub writeAgrees : Entry → Bool
-  writeAgrees e = every (isWrite z d (e .cache) ∷ eqb (backOf z d (e .cache)) (e .back) ∷ leb (e .priority) (z .p) ∷ [])
+  writeAgrees e = every (isWrite z d (e .cache) ∷ eqb (backOf z d (e .cache)) (e .back) ∷ leb (e .priority) (z .p) ∷ countAgrees e ∷ [])
 
   -- a free bucket has blank pages alone
   unfoldable pub allBlank : ℕ → Bool
@@ -143,7 +151,7 @@ topEpoch z d = maxBelow (body z) (epochOf z d)
 
 -- number 5: none of "queues do not hold each cache bucket once, a queue is too long, maps a back-end bucket twice or disagrees with
 -- spare fields, a queued read bucket is incomplete, a free bucket has a non-blank page, a priority is above P, the write count above 15,
--- or next epoch is 0, is not above all present or exceeds 4,294,967,296", and no "mark set without a read bucket"
+-- or next epoch is 0, is not above all present or exceeds 4,294,967,296", no "kept count differs", and no "mark set without a read bucket"
 unfoldable pub stateFits : State → Device → Bool
 stateFits s d = every
     (eachOnce (body (s .sizes)) (queued s)

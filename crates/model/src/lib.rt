@@ -37,11 +37,13 @@ pub struct Sizes {
     pub w: usize,
 }
 
-// A record of the read or the write queue. The priority and the mark, that its logs are all in the read bucket, count in the write queue alone.
+// A record of the read or the write queue. In the write queue alone count the priority, the blank pages of the bucket, and the mark, that its logs
+// are all in the read bucket.
 pub struct Entry {
     pub back: u16,
     pub cache: u8,
     pub priority: u8,
+    pub blank: u8,
     pub marked: bool,
 }
 

@@ -14,7 +14,7 @@ entriesOf q = take (q .len) (q .items)
 
 -- what the logic reads past an array's end
 abbrev pub noEntry : Entry
-noEntry = record { back = 0; cache = 0; priority = 0; marked = false }
+noEntry = record { back = 0; cache = 0; priority = 0; blank = 0; marked = false }
 
 -- the one struct of a list: zeros in the unused places
 abbrev pub queueOf : List Entry → Queue

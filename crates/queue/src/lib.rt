@@ -10,7 +10,7 @@ ghost use lib.Seq.{paste};
 ghost use Rattle.lists.specs.Lists.{distinct};
 ghost use Rattle.lists.specs.Arrays.{joined, padded};
 ghost use Rattle.fifo.specs.View.{listOf};
-ghost use Rattle.model.specs.State.{entry, holds, cacheOf, isMarked, remarked, without, caches, backs};
+ghost use Rattle.model.specs.State.{entry, holds, cacheOf, blankOf, isMarked, remarked, without, caches, backs};
 ghost use Rattle.model.specs.Operations.{halved, prioritised};
 ghost use Rattle.queue.specs.View.{entriesOf, noEntry, queueOf, indexOf};
 
@@ -19,21 +19,23 @@ pub struct Queue {
     pub len: usize,
 }
 
-// Whether a back-end bucket is in a queue, its cache bucket, 0 where there is none, and its mark.
+// Whether a back-end bucket is in a queue, its cache bucket and the blank pages kept there, 0 where there is none, and its mark.
 pub struct Found {
     pub held: bool,
     pub cache: u8,
+    pub blank: u8,
     pub marked: bool,
 }
 
-// A new record, without a mark.
-pub fn entry(back: u16, cache: u8, priority: u8) -> Entry
-    ensures { λ r. ⌜ r ≡ entry back cache priority ⌝ }
+// A new record of a bucket with so many blank pages, which are its priority; without a mark.
+pub fn entry(back: u16, cache: u8, blank: u8) -> Entry
+    ensures { λ r. ⌜ r ≡ entry back cache blank ⌝ }
 {
     Entry {
         back,
         cache,
-        priority,
+        priority: blank,
+        blank,
         marked: false,
     }
 }
@@ -128,9 +130,9 @@ impl Queue {
         i < n
     }
 
-    // The same with its cache bucket and its mark, by one search.
+    // The same with what its record says, by one search.
     pub fn find(self, b: u16) -> Found
-        ensures { λ r. ⌜ (r .held ≡ holds b (entriesOf self)) × (r .cache ≡ cacheOf b (entriesOf self)) × (r .marked ≡ isMarked b (entriesOf self)) ⌝ }
+        ensures { λ r. ⌜ (r .held ≡ holds b (entriesOf self)) × (r .cache ≡ cacheOf b (entriesOf self)) × (r .marked ≡ isMarked b (entriesOf self)) × (r .blank ≡ blankOf b (entriesOf self)) ⌝ }
     {
         let n = self.used();
         let items = self.items;
@@ -139,6 +141,7 @@ impl Queue {
             return Found {
                 held: false,
                 cache: 0,
+                blank: 0,
                 marked: false,
             };
         }
@@ -146,6 +149,7 @@ impl Queue {
         Found {
             held: true,
             cache: e.cache,
+            blank: e.blank,
             marked: e.marked,
         }
     }
@@ -175,13 +179,13 @@ impl Queue {
         others(items, n, b)
     }
 
-    // The priority p at b after a log, which clears the mark.
-    pub fn prioritise(mut self, b: u16, p: u8) -> Self
-        ensures { λ r. ⌜ entriesOf r ≡ map (prioritised b p) (entriesOf self) ⌝ }
+    // b's record after a log that leaves so many blank pages and clears the mark.
+    pub fn prioritise(mut self, b: u16, blank: u8) -> Self
+        ensures { λ r. ⌜ entriesOf r ≡ map (prioritised b blank) (entriesOf self) ⌝ }
     {
         let n = self.used();
         let items = self.items;
-        let next = with_priority(items, n, b, p);
+        let next = with_priority(items, n, b, blank);
         self.items = next;
         self.len = n;
         self
@@ -298,12 +302,13 @@ fn others(items: [Entry; 64], n: usize, b: u16) -> Queue
     Queue { items: a, len: k }
 }
 
-// The entry with the priority p and no mark, if it is b's.
-fn set_at(mut e: Entry, b: u16, p: u8) -> Entry
-    ensures { λ r. ⌜ r ≡ prioritised b p e ⌝ }
+// The entry with so many blank pages and no mark, if it is b's.
+fn set_at(mut e: Entry, b: u16, blank: u8) -> Entry
+    ensures { λ r. ⌜ r ≡ prioritised b blank e ⌝ }
 {
     if e.back == b {
-        e.priority = p;
+        e.priority = blank;
+        e.blank = blank;
         e.marked = false;
     }
     e
@@ -319,6 +324,7 @@ fn mark_at(mut e: Entry, b: u16, t: bool) -> Entry
     e
 }
 
+// The kept count is not halved.
 fn halve_at(mut e: Entry) -> Entry
     ensures { λ r. ⌜ r ≡ halved e ⌝ }
 {
@@ -326,15 +332,15 @@ fn halve_at(mut e: Entry) -> Entry
     e
 }
 
-fn with_priority(items: [Entry; 64], n: usize, b: u16, p: u8) -> [Entry; 64]
+fn with_priority(items: [Entry; 64], n: usize, b: u16, blank: u8) -> [Entry; 64]
     requires { ⌜ n ≤ 64 ⌝ }
-    ensures { λ r. ⌜ take n r ≡ map (prioritised b p) (take n items) ⌝ }
+    ensures { λ r. ⌜ take n r ≡ map (prioritised b blank) (take n items) ⌝ }
 {
     let mut a = items;
     let mut i = 0;
     while i < n {
         let e = a[i];
-        let f = set_at(e, b, p);
+        let f = set_at(e, b, blank);
         a[i] = f;
         i += 1;
     }

@@ -220,11 +220,11 @@ impl State {
         self
     }
 
-    // A write of b is accepted, which leaves it the priority p.
-    pub fn accept(mut self, b: u16, p: u8) -> Self
-        ensures { λ r. ⌜ placesOf r ≡ accept b p (placesOf self) ⌝ }
+    // A write of b is accepted, which leaves it so many blank pages.
+    pub fn accept(mut self, b: u16, blank: u8) -> Self
+        ensures { λ r. ⌜ placesOf r ≡ accept b blank (placesOf self) ⌝ }
     {
-        let writes = self.writes.prioritise(b, p);
+        let writes = self.writes.prioritise(b, blank);
         self.writes = writes;
         self.counted()
     }

@@ -7,7 +7,7 @@ use Rattle.model.specs.Operations.{lastEpoch}
 use Rattle.model.proofs.Calling.{Range}
 use Rattle.steps.specs.Ready.{Ready}
 use Rattle.checks.proofs.Opens.{Open, open-queued, open-orderly, open-formed}
-use Rattle.checks.proofs.Backs.{write-back, write-used}
+use Rattle.checks.proofs.Backs.{write-back, write-used, write-count}
 use Rattle.write.specs.Writes.{Writes}
 
 -- read and write queue leave at least one bucket to the others
@@ -29,6 +29,7 @@ open-writes {s} {d} o range epochs = record {
     epochs = epochs;
   };
   programmed = λ k. write-used o k;
+  counts = λ k. write-count o k;
   some = range .n-some;
   room = omega (arith, range .range-in);
 }

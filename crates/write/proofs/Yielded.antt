@@ -13,8 +13,7 @@ use Rattle.model.specs.declared.Sizes.{Sizes}
 use Rattle.model.specs.declared.Victim.{Victim}
 use Rattle.model.specs.declared.Victim.the-variants.{Nobody, Bucket}
 use Rattle.model.specs.Sizes.{Device, pagesFor}
-use Rattle.model.specs.Image.{blanks}
-use Rattle.model.specs.State.{State, holds, cacheOf}
+use Rattle.model.specs.State.{State, holds, blankOf}
 use Rattle.model.specs.Steps.{_then_, nothing, makeRoom}
 use Rattle.model.specs.Operations.{victim, fits, outgoing, evictAny, makeWay, startLog, write}
 use Rattle.model.proofs.Limits.{Limits}
@@ -25,22 +24,20 @@ use Rattle.steps.specs.Ready.{Ready}
 use Rattle.steps.proofs.Turns.{Steady, then-steady, room-steady, after-then}
 use Rattle.evict.specs.PutAway.{Evicts}
 use Rattle.evict.proofs.Evicted.{Evicted, evicted}
-use Rattle.arrival.specs.Arrives.{Starts}
+use Rattle.arrival.specs.Arrives.{keptFits, Starts}
 use Rattle.write.specs.Writes.{Yields, Writes}
 
 pub yields-evicts : {s : State} {spare : List ℕ} → Yields s spare → (k : ℕ) → holds k (s .writes) ≡ true → Evicts s k
 yields-evicts y k h = record { ready = y .ready; back = y .backs k h; held = h; epoch = omega (arith, y .epochs) }
 
--- b has a Write bucket, with enough blank pages
-pub fit-held : (z : Sizes) (d : Device) (b n : ℕ) (s : State) → fits z d b n s ≡ true → holds b (s .writes) ≡ true
-unfolding fits
-fit-held z d b n s h = and-left (holds b (s .writes)) (leb n (blanks z d (cacheOf b (s .writes)))) h
+-- b has a Write bucket, with enough blank pages by its record
+pub fit-held : (b n : ℕ) (s : State) → keptFits b n s ≡ true → holds b (s .writes) ≡ true
+unfolding keptFits
+fit-held b n s h = and-left (holds b (s .writes)) (leb n (blankOf b (s .writes))) h
 
-pub fit-pages : (z : Sizes) (d : Device) (b n : ℕ) (s : State) → fits z d b n s ≡ true → n ≤ blanks z d (cacheOf b (s .writes))
-unfolding fits
-fit-pages z d b n s h =
-    let left = blanks z d (cacheOf b (s .writes)) in
-    leb-true n left (and-right (holds b (s .writes)) (leb n left) h)
+pub fit-pages : (b n : ℕ) (s : State) → keptFits b n s ≡ true → n ≤ blankOf b (s .writes)
+unfolding keptFits
+fit-pages b n s h = leb-true n (blankOf b (s .writes)) (and-right (holds b (s .writes)) (leb n (blankOf b (s .writes))) h)
 
 -- what gives way is held
 pub outgoing-held : (z : Sizes) (d : Device) (b v : ℕ) (s : State) → 1 ≤ z .w → outgoing z d b s ≡ Bucket v → holds v (s .writes) ≡ true

@@ -4,8 +4,8 @@ use mathlib.Core.Path.{_≡_}
 use mathlib.Core.Bool.{true}
 use mathlib.Core.List.{List}
 use Rattle.model.specs.Sizes.{bucketSize}
-use Rattle.model.specs.Image.{wellFormed, used}
-use Rattle.model.specs.State.{State, holds, cacheOf}
+use Rattle.model.specs.Image.{wellFormed, used, blanks}
+use Rattle.model.specs.State.{State, holds, cacheOf, blankOf}
 use Rattle.model.specs.Operations.{lastEpoch}
 use Rattle.image.specs.Chip.{spareOnly}
 use Rattle.steps.specs.Ready.{Ready}
@@ -17,9 +17,10 @@ pub record Yields (s : State) (spare : List ℕ) : Type 0 where
   pub backs : (k : ℕ) → holds k (s .writes) ≡ true → k < s .sizes .b
   pub epochs : s .next ≤ lastEpoch
 
--- n bytes fit into a bucket, and a Write bucket that they may go to has a programmed page
+-- n bytes fit into a bucket; a Write bucket that they may go to has a programmed page, and the blank pages that its record says
 pub record Writes (s : State) (n : ℕ) (spare : List ℕ) : Type 0 where
   pub yields : Yields s spare
   pub programmed : (k : ℕ) → holds k (s .writes) ≡ true → used (s .sizes) (spareOnly spare) (cacheOf k (s .writes)) ≡ true
+  pub counts : (k : ℕ) → holds k (s .writes) ≡ true → blanks (s .sizes) (spareOnly spare) (cacheOf k (s .writes)) ≡ blankOf k (s .writes)
   pub some : 1 ≤ n
   pub room : n ≤ bucketSize (s .sizes)

@@ -55,7 +55,7 @@ fn write_log(
     ensures { λ _. ⌜ Lent (s .sizes) (now (flash .exit)) (now (spare .exit)) (now (disk .exit)) ⌝ }
 {
     let n = bytes.len();
-    if arrival::fits(s, b, n, spare) {
+    if arrival::fits(s, b, n) {
         return arrival::append_log(meter, s, b, offset, bytes, flash, spare, disk);
     }
     let way = make_way(meter, s, b, flash, spare, disk);

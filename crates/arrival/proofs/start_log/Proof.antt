@@ -19,13 +19,13 @@ pages-for-requires c κs = let fresh = c .before .before .before .before .before
     let limits = fresh .ready .orderly .limits in
     (limits, omega (arith, fresh .room, products limits))
 
-sub-priority : tie.Need-sub-priority
-sub-priority c = let start = c .before .before .before .before .before .before .before in
+sub-rest : tie.Need-sub-rest
+sub-rest c = let start = c .before .before .before .before .before .before .before in
     let fresh = start .pre .1 .fresh in
     omega (arith, c .before .pages-for .ensures, pages-fit (start .args .s .sizes) (length (start .args .bytes .now)) (omega (arith, fresh .ready .orderly .limits .s-low)) (fresh .room))
 
-cast-priority : tie.Need-cast-priority
-cast-priority c = omega (arith, c .before .before .before .before .before .before .before .pre .1 .fresh .ready .orderly .limits .p-high)
+cast-rest : tie.Need-cast-rest
+cast-rest c = omega (arith, c .before .before .before .before .before .before .before .pre .1 .fresh .ready .orderly .limits .p-high)
 
 room-of-requires : tie.Need-room-of-requires
 room-of-requires c κs = search needs
@@ -77,8 +77,8 @@ start-log-spec =
     tie.close
     (tie.spec
     pages-for-requires
-    sub-priority
-    cast-priority
+    sub-rest
+    cast-rest
     room-of-requires
     fresh-log-requires
     roomed-requires

@@ -44,7 +44,7 @@ loop-less c = search needs
 loop-again : tie.Need-loop-again Inv-loop μ-loop
 loop-again c = let l = c .before .before .before .loop in
     let x = c .before .before .before .before .args in
-    (search needs, rw (c .set-at .ensures, unwritten (l .i) (l .a) (x .items) (l .inv .2) noEntry) (mapped-more (prioritised (x .b) (x .p)) (l .i) (x .items) (l .a) noEntry (omega arith) (omega arith) (l .inv .1)), unwritten-behind (l .i) (l .a) (x .items) (l .inv .2) (l .i) _ (omega arith), rw length-set (l .inv .3), l .inv .4)
+    (search needs, rw (c .set-at .ensures, unwritten (l .i) (l .a) (x .items) (l .inv .2) noEntry) (mapped-more (prioritised (x .b) (x .blank)) (l .i) (x .items) (l .a) noEntry (omega arith) (omega arith) (l .inv .1)), unwritten-behind (l .i) (l .a) (x .items) (l .inv .2) (l .i) _ (omega arith), rw length-set (l .inv .3), l .inv .4)
 
 returns : tie.Need-returns Inv-loop μ-loop
 returns c = let l = c .before .loop in

@@ -1,10 +1,9 @@
 use Rattle.write.proofs.Yielded.{fit-held, fit-pages, way-left, written-by, write-starts}
-use Rattle.arrival.proofs.Arrived.{same-fits}
+use Rattle.arrival.proofs.Arrived.{kept-fits}
 use Rattle.steps.proofs.Kept.{body-some}
 use Rattle.steps.proofs.Inside.{cache-inside}
 use Rattle.state.specs.View.{placesOf}
 use Rattle.queue.specs.View.{entriesOf}
-use Rattle.image.specs.Chip.{spareOnly}
 use Rattle.geometry.proofs.Passed.{products}
 use Rattle.geometry.specs.Geometry.{device}
 use Rattle.model.specs.Operations.{fits, write}
@@ -22,28 +21,27 @@ use Rattle.write.proofs.write_log.Tie as tie
 
 fits-requires : tie.Need-fits-requires
 unfolding bucketSize
-fits-requires c κs = let start = c .before .before .before .before .before in
-    let a = start .args in
-    let orderly = start .pre .1 .yields .ready .orderly in (
-      record { limits = orderly .limits; spare-length = start .pre .0 .spare-length },
-      (on-chip (a .s .sizes) _ (cache-inside (body (a .s .sizes)) (a .b) (entriesOf (a .s .writes)) (orderly .writes) (body-some orderly)), omega (arith, start .pre .1 .room, products (orderly .limits))),
-    )
+fits-requires c κs = let start = c .before .before .before .before in
+    let limits = start .pre .1 .yields .ready .orderly .limits in
+    (limits, omega (arith, start .pre .1 .room, products limits))
 
 append-log-requires : tie.Need-append-log-requires
-append-log-requires c κs = let start = c .before .before .before .before .before .before .before .before .before .before in
+append-log-requires c κs = let start = c .before .before .before .before .before .before .before .before .before in
     let a = start .args in
     let writes = start .pre .1 in
     let orderly = writes .yields .ready .orderly in
     let pages = pagesFor (a .s .sizes) (length (a .bytes .now)) in
-    let fits = rw (c .before .before .before .before .fits2 .ensures) at (c .before .before .before .if1 .taken) in (
+    let fits = rw (c .before .before .before .before .fits2 .ensures) at (c .before .before .before .if1 .taken) in
+    let held = fit-held (a .b) pages (placesOf (a .s)) fits in (
       start .pre .0,
       record {
         limits = orderly .limits;
         bucket = on-chip (a .s .sizes) _ (cache-inside (body (a .s .sizes)) (a .b) (entriesOf (a .s .writes)) (orderly .writes) (body-some orderly));
-        programmed = writes .programmed (a .b) (fit-held (a .s .sizes) (spareOnly (a .spare .now)) (a .b) pages (placesOf (a .s)) fits);
+        programmed = writes .programmed (a .b) held;
+        count = writes .counts (a .b) held;
         some = writes .some;
         room = writes .room;
-        pages = fit-pages (a .s .sizes) (spareOnly (a .spare .now)) (a .b) pages (placesOf (a .s)) fits;
+        pages = fit-pages (a .b) pages (placesOf (a .s)) fits;
       },
     )
 
@@ -61,22 +59,23 @@ unfolding write after
 returns c =
     let fits2 = c .before .before .before .before .before .before .before .before .before .before .before .fits2 in
     let if1 = c .before .before .before .before .before .before .before .before .before .before .if1 in
-    let a = c .before .before .before .before .before .before .before .before .before .before .before .before .before .before .before .before .before .args in
+    let start = c .before .before .before .before .before .before .before .before .before .before .before .before .before .before .before .before in
+    let a = start .args in
     let z = a .s .sizes in
     let d = device (a .flash .now) (a .spare .now) (a .disk .now) in
     let pages = pagesFor z (length (a .bytes .now)) in
-    let fitting : fits z d (a .b) pages (placesOf (a .s)) ≡ true = rw (fits2 .ensures, same-fits z d (a .b) pages (placesOf (a .s))) at (if1 .taken) in
+    let fitting : fits z d (a .b) pages (placesOf (a .s)) ≡ true = rw (fits2 .ensures, kept-fits z d (a .b) pages (placesOf (a .s)) (start .pre .1 .counts (a .b))) at (if1 .taken) in
     (rw fitting (c .before .before .before .before .before .before .append-log .ensures .0), c .before .before .before .before .before .before .append-log .ensures .1)
 
 make-way-requires : tie.Need-make-way-requires
 make-way-requires c κs =
-    let start = c .before .before .before .before .before .before .before .before .before .before in
+    let start = c .before .before .before .before .before .before .before .before .before in
     (start .pre .0, start .pre .1 .yields)
 
 start-log-requires : tie.Need-start-log-requires
 start-log-requires c κs =
     let make-way = c .before .before .before .before .before .before .before .before .before .before .before .make-way in
-    let start = c .before .before .before .before .before .before .before .before .before .before .before .before .before .before .before .before .before .before .before .before .before .before in
+    let start = c .before .before .before .before .before .before .before .before .before .before .before .before .before .before .before .before .before .before .before .before .before in
     let a = start .args in
     let made = make-way .ensures in
     let way = way-left (placesOf (a .s)) (a .spare .now) (start .pre .1 .yields) (a .b) (running (a .flash .now) (a .spare .now) (a .disk .now) (a .meter)) (made .0) in
@@ -96,12 +95,12 @@ returns-2 c =
     let fits2 = c .before .before .before .before .before .before .before .before .before .before .before .before .before .before .before .before .before .before .before .before .before .before .before .fits2 in
     let if1 = c .before .before .before .before .before .before .before .before .before .before .before .before .before .before .before .before .before .before .before .before .before .before .if1 in
     let make-way = c .before .before .before .before .before .before .before .before .before .before .before .before .before .before .before .before .before .before .make-way in
-    let start = c .before .before .before .before .before .before .before .before .before .before .before .before .before .before .before .before .before .before .before .before .before .before .before .before .before .before .before .before .before in
+    let start = c .before .before .before .before .before .before .before .before .before .before .before .before .before .before .before .before .before .before .before .before .before .before .before .before .before .before .before .before in
     let a = start .args in
     let z = a .s .sizes in
     let d = device (a .flash .now) (a .spare .now) (a .disk .now) in
     let pages = pagesFor z (length (a .bytes .now)) in
-    let full : fits z d (a .b) pages (placesOf (a .s)) ≡ false = rw (fits2 .ensures, same-fits z d (a .b) pages (placesOf (a .s))) at (if1 .left) in
+    let full : fits z d (a .b) pages (placesOf (a .s)) ≡ false = rw (fits2 .ensures, kept-fits z d (a .b) pages (placesOf (a .s)) (start .pre .1 .counts (a .b))) at (if1 .left) in
     let r = running (a .flash .now) (a .spare .now) (a .disk .now) (a .meter) in
     let made = make-way .ensures in
     let started = c .before .before .before .before .before .before .start-log .ensures in (

@@ -26,12 +26,18 @@ add-extra-at-2 c = search needs
 extra-at-requires-2 : tie.Need-extra-at-requires-2
 extra-at-requires-2 c κs = search needs
 
-cast-t9 : tie.Need-cast-t9
-cast-t9 c = search needs
+add-extra-at-3 : tie.Need-add-extra-at-3
+add-extra-at-3 c = search needs
+
+extra-at-requires-3 : tie.Need-extra-at-requires-3
+extra-at-requires-3 c κs = search needs
+
+cast-t10 : tie.Need-cast-t10
+cast-t10 c = search needs
 
 returns : tie.Need-returns
-returns c = let a = c .before .before .before .before .before .args in
-    rw (c .before .before .before .number-at .ensures .0, c .before .before .byte-at .ensures, c .before .extra-at .ensures, c .extra-at2 .ensures) (sym (entry-at (a .write) (a .bytes .now) (a .at)))
+returns c = let a = c .before .before .before .before .before .before .args in
+    rw (c .before .before .before .before .number-at .ensures .0, c .before .before .before .byte-at .ensures, c .before .before .extra-at .ensures, c .before .extra-at2 .ensures, c .extra-at3 .ensures) (sym (entry-at (a .write) (a .bytes .now) (a .at)))
 
 pub entry-at-spec : {M : Type 1} → statement M
 entry-at-spec =
@@ -44,5 +50,7 @@ entry-at-spec =
     extra-at-requires
     add-extra-at-2
     extra-at-requires-2
-    cast-t9
+    add-extra-at-3
+    extra-at-requires-3
+    cast-t10
     returns)

@@ -45,17 +45,30 @@ put-number-requires-4 : tie.Need-put-number-requires-4
 unfolding width entryWidths
 put-number-requires-4 c κs = let room = rw (c .before .before .before .before .before .before .before .if1 .taken) at (c .before .before .before .before .before .before .before .before .before .before .before .before .before .before .before .before .before .before .before .pre) in omega (arith, room)
 
+add-put-number-4 : tie.Need-add-put-number-4
+add-put-number-4 c = search needs
+
+cast-put-number-4 : tie.Need-cast-put-number-4
+cast-put-number-4 c = search needs
+
+put-number-requires-5 : tie.Need-put-number-requires-5
+unfolding width entryWidths
+put-number-requires-5 c κs = let room = rw (c .before .before .before .before .before .before .before .before .before .before .before .before .if1 .taken) at (c .before .before .before .before .before .before .before .before .before .before .before .before .before .before .before .before .before .before .before .before .before .before .before .before .pre) in omega (arith, room)
+
 same-length : tie.Need-same-length
 same-length c = search needs
 
 returns : tie.Need-returns
 unfolding width entryWidths entryNumbers
 returns c =
-    let a = c .before .before .before .before .before .before .before .before .before .before .before .before .before .before .before .before .before .before .before .before .before .before .args in
+    let start = c .before .before .before .before .before .before .before .before .before .before .before .before .before .before .before .before .before .before .before .before .before .before .before .before .before .before .before in
+    let a = start .args in
     let third : a .at + 3 ≡ (a .at + 2) + 1 = omega arith in
     let fourth : a .at + 4 ≡ ((a .at + 2) + 1) + 1 = omega arith in
-    let room = rw (c .before .before .before .before .before .before .before .before .before .before .if1 .taken) at (c .before .before .before .before .before .before .before .before .before .before .before .before .before .before .before .before .before .before .before .before .before .before .pre) in
-    rw (c .before .before .before .before .before .before .before .before .before .before .if1 .taken, c .before .before .put-number4 .ensures, c .before .before .before .mark .ensures, c .before .before .before .before .before .before .before .put-number3 .ensures, fourth, third, c .before .before .before .before .before .before .before .before .before .before .before .before .before .put-number2 .ensures, c .before .before .before .before .before .before .before .before .before .before .before .before .before .before .before .before .before .before .put-number .ensures)
+    let fifth : a .at + 5 ≡ (((a .at + 2) + 1) + 1) + 1 = omega arith in
+    let write = c .before .before .before .before .before .before .before .before .before .before .before .before .before .before .before .if1 .taken in
+    let room = rw write at (start .pre) in
+    rw (write, c .before .before .put-number5 .ensures, c .before .before .before .before .before .before .before .put-number4 .ensures, c .before .before .before .before .before .before .before .before .mark .ensures, c .before .before .before .before .before .before .before .before .before .before .before .before .put-number3 .ensures, fifth, fourth, third, c .before .before .before .before .before .before .before .before .before .before .before .before .before .before .before .before .before .before .put-number2 .ensures, c .before .before .before .before .before .before .before .before .before .before .before .before .before .before .before .before .before .before .before .before .before .before .before .put-number .ensures)
     (row-laid (entryWidths true) (entryNumbers true (a .e)) (a .out .now) (a .at) room)
 
 same-length-2 : tie.Need-same-length-2
@@ -84,6 +97,9 @@ put-entry-spec =
     add-put-number-3
     mark-requires
     put-number-requires-4
+    add-put-number-4
+    cast-put-number-4
+    put-number-requires-5
     same-length
     returns
     same-length-2

@@ -15,7 +15,7 @@ with-priority-requires c κs = search needs
 returns : tie.Need-returns
 returns c = let x = c .before .before .before .args in
     let u = c .before .before .used in
-    c .with-priority .ensures ∙ ap (map (prioritised (x .b) (x .p))) (take-used (u .result) (x .self .len) (x .self .items) (u .ensures .0))
+    c .with-priority .ensures ∙ ap (map (prioritised (x .b) (x .blank))) (take-used (u .result) (x .self .len) (x .self .items) (u .ensures .0))
 
 pub prioritise-spec : {M : Type 1} → statement M
 prioritise-spec = tie.close (tie.spec used-requires with-priority-requires returns)
