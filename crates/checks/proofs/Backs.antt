@@ -11,10 +11,11 @@ use Rattle.model.specs.declared.Sizes.{Sizes}
 use Rattle.model.specs.declared.Entry.{Entry}
 use Rattle.model.specs.Sizes.{Device, body}
 use Rattle.model.specs.Image.{used, backOf, isWrite, isCopy, complete, blanks}
-use Rattle.model.specs.State.{State, isOf, holds, cacheOf, blankOf, cacheBucket, caches, isBelow, readAgrees, countAgrees, writeAgrees, stateFits}
+use Rattle.model.specs.State.{State, isOf, holds, cacheOf, blankOf, cacheBucket, caches, isBelow, readAgrees, writeAgrees, stateFits}
 use Rattle.model.proofs.Formed.{formed-of}
 use Rattle.model.proofs.BucketKinds.{back-below}
 use Rattle.model.proofs.QueuesGrown.{held-record}
+use Rattle.model.proofs.Counts.{kept-count}
 use Rattle.image.specs.Chip.{spareOnly}
 use Rattle.image.proofs.SameSpare.{same-used, same-blanks}
 use Rattle.checks.proofs.Opens.{Image, Open, open-orderly}
@@ -58,7 +59,4 @@ module _ {s : State} {d : Device} (o : Open s d) (b : ℕ) where
       same-used (s .sizes) d (cacheOf b (s .writes)) ∙ and-left (used (s .sizes) d (cacheOf b (s .writes))) _ (agrees 0)
 
   pub write-count : holds b (s .writes) ≡ true → blanks (s .sizes) (spareOnly (d .spare)) (cacheOf b (s .writes)) ≡ blankOf b (s .writes)
-  unfolding stateFits writeAgrees countAgrees cacheOf blankOf
-  write-count h =
-      let agrees = every-at _ (held-record (writeAgrees (s .sizes) d) (s .writes) b (every-at _ (o .fits) 6) h) in
-      same-blanks (s .sizes) d (cacheOf b (s .writes)) ∙ sym (eqb-true _ _ (agrees 3))
+  write-count h = same-blanks (s .sizes) d (cacheOf b (s .writes)) ∙ kept-count s d (o .fits) b h

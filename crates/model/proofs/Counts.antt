@@ -1,6 +1,6 @@
 -- Kept counts are true after every call, and a write goes by them.
 use Prim.Native.Nat.{ℕ}
-use mathlib.Core.Path.{_≡_, refl, sym, ap, _∙_, subst}
+use mathlib.Core.Path.{_≡_, refl, sym, ap, _∙_}
 use mathlib.Core.Bool.{Bool, true, false, true≢false}
 use mathlib.Core.List.{List, [], _∷_, map, append-nil}
 use borrow.Author.Tests.{eq-eqb, eqb-true}
@@ -10,7 +10,7 @@ use Rattle.model.specs.declared.Sizes.{Sizes}
 use Rattle.model.specs.Sizes.{Device}
 use Rattle.model.specs.Stores.{Store, program, erase, unit, apply, applyAll, tagOf, unitStore, unitStores}
 use Rattle.model.specs.Image.{blanks}
-use Rattle.model.specs.State.{State, moved, entry, stopped, countAgrees, writeAgrees, stateFits, blankOf, cacheOf}
+use Rattle.model.specs.State.{State, moved, entry, holds, countAgrees, writeAgrees, stateFits, blankOf, cacheOf}
 use Rattle.model.specs.Operations.{drain, format}
 use Rattle.model.specs.Recover.{byEpoch, isRescued, rescued, rescueStores, keptWrite, keptWrites, recover}
 use Rattle.model.specs.Calls.{Call, formatCall, readCall, writeCall, eraseCall, drainCall, recoverCall, Outcome, runningTests, tests, refusal, sizesOf, planOf, turnedDown, call}
@@ -75,8 +75,11 @@ counts-true n k s d h = go (ends n k s d)
 
 -- ---- what a write goes by
 
+-- number 5 says so
+pub kept-count : (s : State) (d : Device) → stateFits s d ≡ true → (b : ℕ) → holds b (s .writes) ≡ true → blanks (s .sizes) d (cacheOf b (s .writes)) ≡ blankOf b (s .writes)
+unfolding stateFits writeAgrees countAgrees blankOf cacheOf
+kept-count s d fits b h = sym (eqb-true _ _ (every-at _ (held-record (writeAgrees (s .sizes) d) (s .writes) b (every-at _ fits 6) h) 3))
+
 pub count-decides : CountDecides
-unfolding CountDecides stateFits writeAgrees countAgrees blankOf cacheOf
-count-decides b off bytes s d r h =
-    let pass = write-passed s d b off bytes r .0 in
-    sym (eqb-true _ _ (every-at _ (held-record (writeAgrees (s .sizes) d) (s .writes) b (every-at _ (pass .state-fits) 6) h) 3))
+unfolding CountDecides
+count-decides b off bytes s d r h = kept-count s d (write-passed s d b off bytes r .0 .state-fits) b h

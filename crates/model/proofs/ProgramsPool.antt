@@ -1,4 +1,4 @@
--- The buckets that a step may take, and steps whose programs rise.
+-- The buckets that a step may take, and steps whose programs rise and that leave kept counts true.
 use Prim.Native.Nat.{ℕ, _+_, _*_, _≤_, _<_}
 use mathlib.Core.Path.{_≡_, refl, sym, ap, _∙_, subst}
 use mathlib.Core.Logic.{_⊎_, inl, inr, _≢_}

@@ -1,4 +1,4 @@
--- The programs of every call that is not refused rise.
+-- The programs of every call that is not refused rise; a read and a write leave kept counts true.
 use Prim.Native.Nat.{ℕ, _-_, _≤_, _<_}
 use mathlib.Core.Path.{_≡_, refl, sym, ap, _∙_}
 use mathlib.Core.Logic.{_⊎_, inl, inr, _≢_}

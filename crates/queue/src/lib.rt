@@ -154,14 +154,6 @@ impl Queue {
         }
     }
 
-    // Its cache bucket, 0 where there is none.
-    pub fn cache_of(self, b: u16) -> u8
-        ensures { λ r. ⌜ r ≡ cacheOf b (entriesOf self) ⌝ }
-    {
-        let found = self.find(b);
-        found.cache
-    }
-
     // Whether its logs are all in the read bucket.
     pub fn is_marked(self, b: u16) -> bool
         ensures { λ r. ⌜ r ≡ isMarked b (entriesOf self) ⌝ }
