@@ -82,7 +82,7 @@ module _ (z : Sizes) (d : Device) where
   unfoldable pub keptRead : ℕ → Entry
   keptRead c = entry (backOf z d c) c 0
 
-  -- a new record: "recovery clears the mark"
+  -- a new record: recovery counts the blank pages and "clears the mark"
   unfoldable pub keptWrite : ℕ → Entry
   keptWrite w = entry (backOf z d w) w (blanks z d w)
 

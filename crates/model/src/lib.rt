@@ -37,8 +37,8 @@ pub struct Sizes {
     pub w: usize,
 }
 
-// A record of the read or the write queue. In the write queue alone count the priority, the blank pages of the bucket, and the mark, that its logs
-// are all in the read bucket.
+// A record of the read or the write queue. The priority, the blank pages of its bucket and the mark, that its logs are all in the read bucket, are of
+// the write queue alone.
 pub struct Entry {
     pub back: u16,
     pub cache: u8,
