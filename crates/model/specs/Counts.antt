@@ -24,7 +24,8 @@ CountsTrue = (n : ℕ) (k : Call) (s : State) (d : Device)
     → let o = call n k s d in
     isFinished (o .answer) ≡ true → all (countAgrees (o .state .sizes) (o .device)) (o .state .writes) ≡ true
 
--- a write that is not turned down goes by the kept count: the blank pages by which `fits` judges and `appendLog` finds its first page are that count
+-- "Other answers, and stores, do not change": a plan speaks of the blank pages of a bucket, as it did. A write that is not turned down goes by the
+-- kept count all the same, since the pages by which `fits` judges and `appendLog` finds its first one are that many
 unfoldable pub CountDecides : Type 0
 CountDecides = (b off : ℕ) (bytes : List ℕ) (s : State) (d : Device) → refusal (writeCall b off bytes) s d ≡ 0 → holds b (s .writes) ≡ true
     → blanks (s .sizes) d (cacheOf b (s .writes)) ≡ blankOf b (s .writes)

@@ -44,7 +44,7 @@ started z r w g f n = record { sizes = z; running = true; reads = r; writes = w;
 
 -- ---- queues of back-end buckets
 
--- a new record of a bucket with n blank pages: they are its priority, and their count is kept beside it; it has no mark
+-- a new record of a bucket with n blank pages: they are its priority, and "the count of blank pages" is kept "beside the priority"; it has no mark
 unfoldable pub entry : (b c n : ℕ) → Entry
 entry b c n = record { back = b; cache = c; priority = n; blank = n; marked = false }
 
