@@ -22,7 +22,7 @@ abbrev pub agrees : Sizes → Device → Bool → Entry → Bool
 agrees z d true = writeAgrees z d
 agrees z d false = readAgrees z d
 
--- none "disagrees with spare fields, a queued read bucket is incomplete, a free bucket has a non-blank page, a priority is above P"
+-- none "disagrees with spare fields, a queued read bucket is incomplete, a free bucket has a non-blank page, a priority is above P", and no "kept count differs"
 unfoldable pub tagsAgree : State → Device → Bool
 tagsAgree s d = every
     (all (readAgrees (s .sizes) d) (s .reads)

@@ -138,7 +138,7 @@ module _ (s : State) (d : Device) (pass : Passed s d) where
             let u = units-rise z s d start b (read-back s d pass b r m) (bucketBytes z d r) (length-bucket z d (lens s d pass) r (on-chip z r (reads-in s d pass b r m))) in
             rw q (record { rising = u .rising; left = left-pool _ (u .left) })
 
-  pub oldest-rises : Rises (s .sizes) (Pool (s .sizes)) (dropOldest (s .sizes) s d) d × Some (dropOldest (s .sizes) s d .state)
+  oldest-rises : Rises (s .sizes) (Pool (s .sizes)) (dropOldest (s .sizes) s d) d × Some (dropOldest (s .sizes) s d .state)
   unfolding dropOldest withoutOldest stateFits nothing
   oldest-rises = go (true-or-false (ltb (length (s .reads)) (z .r)))
     where
@@ -195,7 +195,7 @@ module _ (s : State) (d : Device) (pass : Passed s d) where
   pub record Opens (b : ℕ) (p : Plan) : Type 0 where
     pub rises : Rises (s .sizes) (Pool (s .sizes)) p d
     pub absent-now : holds b (p .state .writes) ≡ false
-    pub some-there : (empty (p .state .free) ≡ false) ⊎ (empty (p .state .gc) ≡ false)
+    pub some-there : Some (p .state)
 
   -- v's Write bucket leaves
   module _ (b v : ℕ) (h : holds v (s .writes) ≡ true) (absent : holds b (without v (s .writes)) ≡ false) where

@@ -30,7 +30,7 @@ pays z drainCall m = drain-pays z
 pays z (recoverCall y) m = subst (λ (x : Sizes). Pays z (recoverCall x)) (sym m) (recover-pays z)
 
 owing : (z : Sizes) (fits : limits z ≡ true) → Owing z fits
-owing z fits = record { pays = pays z; counts = λ k s d e r. counts-left z k s d e r; reads = read-gives z fits }
+owing z fits = record { pays = pays z; counts = counts-left z; reads = read-gives z fits }
 
 -- the invariant holds where the list starts
 start : (z : Sizes) (n : ℕ) (s : State) (d : Device) → call n (formatCall z) s d .answer ≡ Done
