@@ -1,8 +1,9 @@
 // Bytes in lent areas: copied over a part, or filled into it. Every store of bytes goes through here.
 ghost use mathlib.Core.Path.{_≡_};
+ghost use mathlib.Core.Logic.{_⊎_};
 ghost use Prim.Native.Nat.{_+_, _≤_};
 ghost use lib.ListN.{length, replicate};
-ghost use Rattle.lists.specs.Lists.{splice};
+ghost use Rattle.lists.specs.Lists.{part, splice};
 
 // Copies the source over the whole area.
 pub fn copy_over(area: &mut [u8], source: &[u8])
@@ -43,4 +44,18 @@ pub fn fill_at(area: &mut [u8], at: usize, count: usize, byte: u8)
 {
     let end = at + count;
     fill(&mut area[at..end], byte);
+}
+
+// Copies a part of the area over another part that it does not meet. With no way out of the loop many bytes are copied at a time.
+pub fn move_within(area: &mut [u8], from: usize, to: usize, count: usize)
+    requires { ⌜ from + count ≤ length (now area) ⌝ }
+    requires { ⌜ to + count ≤ length (now area) ⌝ }
+    requires { ⌜ (from + count ≤ to) ⊎ (to + count ≤ from) ⌝ }
+    ensures { λ _. ⌜ now (area .exit) ≡ splice (now (area .entry)) to (part (now (area .entry)) from count) ⌝ }
+{
+    let mut i = 0;
+    while i < count {
+        area[to + i] = area[from + i];
+        i += 1;
+    }
 }
