@@ -17,7 +17,7 @@ use Rattle.geometry.proofs.Passed.{lengths-of}
 use Rattle.meter.specs.declared.Meter.{Meter}
 use Rattle.meter.specs.Run.{Run, running, runAll}
 use Rattle.units.proofs.Kept.{units-kept}
-use Rattle.merge.proofs.SameChip.{same-merge}
+use Rattle.overlay.proofs.SameChip.{same-merge}
 use Rattle.gather.specs.Sources.{Sources}
 use Rattle.gather.proofs.Gathered.{merged-size}
 

@@ -17,9 +17,9 @@ use Rattle.model.specs.Steps.{baseBytes, merged}
 use Rattle.model.proofs.Frames.{Lengths, length-bucket, length-disk}
 use Rattle.geometry.specs.Geometry.{device, Lent}
 use Rattle.geometry.proofs.Passed.{lengths-of}
-use Rattle.merge.specs.Window.{Readable}
-use Rattle.merge.proofs.Logs.{merged-length}
-use Rattle.merge.proofs.SameChip.{same-merge}
+use Rattle.overlay.specs.Window.{Readable}
+use Rattle.overlay.proofs.Logs.{merged-length}
+use Rattle.overlay.proofs.SameChip.{same-merge}
 use Rattle.image.specs.Chip.{spareOnly}
 use Rattle.steps.specs.Ready.{Orderly}
 use Rattle.steps.proofs.Inside.{cache-inside}

@@ -67,6 +67,13 @@ part-alike l m i n e h =
     ext-getD 0 (part l i n) (part m i n) (length-part l i n ∙ ap (λ (x : ℕ). min n (x - i)) e ∙ sym (length-part m i n))
     (λ k hk. let hk' : k < n = omega (arith, length-part l i n) in getD-part l i n k hk' ∙ h (i + k) (omega arith) ∙ sym (getD-part m i n k hk'))
 
+-- parts of two lists, byte by byte
+pub part-from : (l m : List ℕ) (i j n : ℕ) → i + n ≤ length l → j + n ≤ length m → ((k : ℕ) → k < n → getD l (i + k) 0 ≡ getD m (j + k) 0) → part l i n ≡ part m j n
+part-from l m i j n fl fm h =
+    let ll = length-part-fits l i n fl in
+    ext-getD 0 (part l i n) (part m j n) (ll ∙ sym (length-part-fits m j n fm))
+    (λ k hk. let hk' : k < n = rw ll at hk in getD-part l i n k hk' ∙ h k hk' ∙ sym (getD-part m j n k hk'))
+
 -- the part that was spliced in, and a part that lies apart
 pub part-same : (l : List ℕ) (i : ℕ) (bs : List ℕ) → i + length bs ≤ length l → part (splice l i bs) i (length bs) ≡ bs
 part-same l i bs h =

@@ -1,13 +1,14 @@
 -- Laws of splices that follow each other, and of a splice at the start.
-use mathlib.Core.Path.{_≡_, ap, _∙_}
+use mathlib.Core.Path.{_≡_, sym, ap, _∙_}
 use mathlib.Core.List.{List, [], _∷_, _++_, append-assoc}
 use Prim.Native.Nat.{ℕ, _+_, _<_, _≤_}
 use native.Mathlib.Nat.{zero-add, add-zero, add-assoc}
 use native.Mathlib.Numerals.{add-one}
 use native.Mathlib.Omega.{arith}
-use lib.ListN.{length, take, drop, set, length-append, take-append-drop}
-use lib.Seq.{set-split, drop-drop, drop-at, take-at, length-take-le}
-use Rattle.lists.specs.Lists.{splice}
+use lib.ListN.{length, take, drop, set, length-append, length-drop, take-append-drop}
+use lib.Seq.{set-split, drop-drop, drop-at, take-at, take-add, length-take-le}
+use Rattle.lists.specs.Lists.{splice, part}
+use Rattle.lists.proofs.Parts.{length-part-fits}
 
 -- one element
 pub splice-one : (l : List ℕ) (i x : ℕ) → i < length l → set l i x ≡ splice l i (x ∷ [])
@@ -38,3 +39,22 @@ splice-next l i xs ys h =
       length-append xs ys,
     )
     (simp (append-assoc, add-assoc))
+
+-- a part put back where it was
+pub splice-own : (l : List ℕ) (i n : ℕ) → i + n ≤ length l → splice l i (part l i n) ≡ l
+unfolding splice part
+splice-own l i n h =
+    let e : length (take n (drop i l)) ≡ n = length-take-le n (drop i l) (omega (arith, length-drop i l)) in
+    rw (e, ← drop-drop n i l, take-append-drop n (drop i l), take-append-drop i l)
+
+-- one part behind another
+pub part-next : (l : List ℕ) (a i n : ℕ) → part l a (i + n) ≡ part l a i ++ part l (a + i) n
+unfolding part
+part-next l a i n = rw (take-add i n (drop a l), drop-drop i a l)
+
+pub splice-part : (l bytes : List ℕ) (at a i n : ℕ) → at + i ≤ length l → a + i ≤ length bytes
+    → splice (splice l at (part bytes a i)) (at + i) (part bytes (a + i) n) ≡ splice l at (part bytes a (i + n))
+splice-part l bytes at a i n h k =
+    let e : length (part bytes a i) ≡ i = length-part-fits bytes a i k in
+    rw (part-next bytes a i n)
+    (ap (λ (j : ℕ). splice (splice l at (part bytes a i)) (at + j) (part bytes (a + i) n)) (sym e) ∙ splice-next l at (part bytes a i) (part bytes (a + i) n) (rw e h))

@@ -1,3 +1,1 @@
-pub mod SameChip
 pub mod Meet
-pub mod Logs

@@ -1,4 +1,5 @@
-// The complete logs of a cache bucket, laid in order over a base.
+// The complete logs of a cache bucket, laid in order over a base, log by log: what `overlay` is compared with, by the program `remerge` and in
+// the benchmark. No entry calls it.
 // A window is a lent buffer that shows a part of the base; merged, it shows the same part of the result. Only the bytes in the window are
 // copied.
 use model::Sizes;
@@ -6,24 +7,18 @@ use spare::Fields;
 use spare::Seen;
 ghost use mathlib.Core.Path.{_≡_};
 ghost use mathlib.Core.List.{List};
-ghost use Prim.Native.Nat.{ℕ, _+_, _≤_, _<_, max, min};
+ghost use Prim.Native.Nat.{ℕ, _+_, _≤_, _<_, max};
 ghost use lib.ListN.{length};
 ghost use Rattle.lists.specs.Lists.{splice};
 ghost use Rattle.model.specs.Sizes.{bucketSize, flashSize, body};
 ghost use Rattle.model.specs.Image.{mergeTo, merge};
 ghost use Rattle.model.proofs.Limits.{Limits};
-ghost use Rattle.merge.specs.Window.{Turns, Readable, chip, LogPlace, logPart};
+ghost use Rattle.overlay.specs.Window.{Turns, Readable, chip, LogPlace, logPart};
 
 fn larger(a: usize, b: usize) -> usize
     ensures { λ r. ⌜ r ≡ max a b ⌝ }
 {
     if a < b { b } else { a }
-}
-
-fn smaller(a: usize, b: usize) -> usize
-    ensures { λ r. ⌜ r ≡ min a b ⌝ }
-{
-    if a < b { a } else { b }
 }
 
 // Lays bytes, which belong into the whole from index `at` on, over the window, which shows the whole from index `from` on.
@@ -33,7 +28,7 @@ fn lay(from: usize, at: usize, bytes: &[u8], window: &mut [u8])
     ensures { λ _. ⌜ ((whole : List ℕ) → from + length (now (window .entry)) ≤ length whole → at + length (now (bytes .entry)) ≤ length whole → Turns from whole (splice whole at (now (bytes .entry))) (now (window .entry)) (now (window .exit))) ⌝ }
 {
     let start = larger(from, at);
-    let end = smaller(from + window.len(), at + bytes.len());
+    let end = overlay::smaller(from + window.len(), at + bytes.len());
     if end <= start {
         return;
     }

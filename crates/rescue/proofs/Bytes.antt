@@ -27,8 +27,8 @@ use Rattle.geometry.specs.Geometry.{device}
 use Rattle.geometry.proofs.Passed.{lengths-of}
 use Rattle.image.specs.Chip.{spareOnly}
 use Rattle.rules.proofs.SameSpare.{same-well-formed}
-use Rattle.merge.specs.Window.{Readable, chip}
-use Rattle.merge.proofs.SameChip.{same-merge}
+use Rattle.overlay.specs.Window.{Readable, chip}
+use Rattle.overlay.proofs.SameChip.{same-merge}
 use Rattle.classes.specs.Columns.{nowhere, inOrder, column}
 use Rattle.rescue.specs.Sources.{Recoverable}
 use Rattle.rescue.specs.Beside.{beside}

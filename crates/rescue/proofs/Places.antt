@@ -20,8 +20,8 @@ use Rattle.model.specs.Sizes.{Device, bucketSize, body}
 use Rattle.model.specs.Image.{merge}
 use Rattle.model.specs.State.{isBelow}
 use Rattle.model.specs.Recover.{mergeAll}
-use Rattle.merge.specs.Window.{Readable, chip}
-use Rattle.merge.proofs.Logs.{merged-length}
+use Rattle.overlay.specs.Window.{Readable, chip}
+use Rattle.overlay.proofs.Logs.{merged-length}
 use Rattle.rescue.specs.Beside.{beside, Passed}
 
 -- ---- places passed

@@ -14,7 +14,7 @@ use Rattle.model.specs.Recover.{isRescued, rescued, rescueStores}
 use Rattle.geometry.specs.Geometry.{device}
 use Rattle.geometry.proofs.Passed.{lengths-of}
 use Rattle.image.specs.Chip.{spareOnly}
-use Rattle.merge.specs.Window.{Readable}
+use Rattle.overlay.specs.Window.{Readable}
 use Rattle.meter.specs.declared.Meter.{Meter}
 use Rattle.meter.specs.Run.{Run, running, runAll}
 use Rattle.meter.proofs.Runs.{run-append}

@@ -16,7 +16,7 @@ ghost use Rattle.model.specs.Recover.{isDroppedWrite, isDroppedCopy, mergeAll, 
 ghost use Rattle.model.proofs.Limits.{Limits};
 ghost use Rattle.geometry.specs.Geometry.{device, Lent};
 ghost use Rattle.image.specs.Chip.{Chip, spareOnly};
-ghost use Rattle.merge.specs.Window.{Turns, Readable, chip};
+ghost use Rattle.overlay.specs.Window.{Turns, Readable, chip};
 ghost use Rattle.meter.specs.Run.{running, runAll};
 ghost use Rattle.classes.specs.Columns.{inOrder, column, Columns};
 ghost use Rattle.rescue.specs.Sources.{Recoverable, Listed};

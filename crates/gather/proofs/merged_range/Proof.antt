@@ -1,6 +1,6 @@
 use Rattle.model.proofs.Limits.{on-chip}
 use Rattle.gather.proofs.Gathered.{readable, base-size}
-use Rattle.merge.proofs.SameChip.{same-merge}
+use Rattle.overlay.proofs.SameChip.{same-merge}
 use Rattle.state.specs.View.{placesOf}
 use Rattle.geometry.specs.Geometry.{device}
 use Rattle.model.specs.Steps.{baseBytes, merged}

@@ -3,8 +3,8 @@ use native.Mathlib.Omega.{arith}
 use lib.ListN.{length}
 use borrow.Rule.Slice.PartMut.{midOf}
 use borrow.Author.Needs.{needs}
-use Rattle.merge.proofs.Logs.{in-flash}
-use Rattle.merge.specs.Window.{logPart}
+use Rattle.overlay.proofs.Logs.{in-flash}
+use Rattle.overlay.specs.Window.{logPart}
 use Rattle.geometry.proofs.Passed.{products}
 use Rattle.model.specs.Sizes.{bucketSize}
 use Rattle.lists.proofs.Lent.{lent-part, lent-length}

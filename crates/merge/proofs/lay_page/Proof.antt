@@ -1,4 +1,4 @@
-use Rattle.merge.proofs.Logs.{merged-length, nothing-laid, log-lacking, ends-last, log-place, log-laid}
+use Rattle.overlay.proofs.Logs.{merged-length, nothing-laid, log-lacking, ends-last, log-place, log-laid}
 use borrow.Author.Tests.{not-true, not-false}
 use native.Mathlib.Omega.{arith}
 use mathlib.Core.Path.{sym, _∙_}

@@ -4,8 +4,8 @@ use Rattle.image.specs.Chip.{spareOnly}
 use Rattle.model.proofs.Limits.{on-chip}
 use Rattle.model.specs.Sizes.{bucketSize}
 use Rattle.model.specs.Image.{mergeTo, merge, blanks}
-use Rattle.merge.proofs.Logs.{merged-programmed}
-use Rattle.merge.specs.Window.{chip}
+use Rattle.overlay.proofs.Logs.{merged-programmed}
+use Rattle.overlay.specs.Window.{chip}
 use lib.ListN.{length}
 use native.Mathlib.Omega.{arith}
 use Prim.Native.Nat.{ℕ, _-_, _≤_}

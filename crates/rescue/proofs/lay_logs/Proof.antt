@@ -8,7 +8,7 @@ use Rattle.lists.specs.Lists.{part}
 use Rattle.model.specs.Sizes.{bucketSize, body}
 use Rattle.model.specs.Image.{merge}
 use Rattle.model.specs.Recover.{mergeAll}
-use Rattle.merge.specs.Window.{chip}
+use Rattle.overlay.specs.Window.{chip}
 use Rattle.rescue.specs.Beside.{beside}
 use Rattle.rescue.proofs.Places.{listed, laid-passed, laid-next, laid-last, laid-size}
 use Rattle.rescue.proofs.lay_logs.Statement.{statement}

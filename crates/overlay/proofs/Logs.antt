@@ -26,8 +26,8 @@ use Rattle.spare.specs.declared.Seen.the-variants.{Blank, Programmed}
 use Rattle.spare.proofs.Looked.{seen-blank, seen-programmed}
 use Rattle.image.specs.Chip.{spareOnly}
 use Rattle.rules.proofs.SameSpare.{same-well-formed}
-use Rattle.merge.specs.Window.{chip, Readable, LogPlace, logPart}
-use Rattle.merge.proofs.SameChip.{same-merge-to}
+use Rattle.overlay.specs.Window.{chip, Readable, LogPlace, logPart}
+use Rattle.overlay.proofs.SameChip.{same-merge-to}
 
 -- bytes of a bucket lie within the flash
 pub in-flash : (z : Sizes) (flash : List ℕ) (c a : ℕ) → length flash ≡ flashSize z → c < z .c → a ≤ bucketSize z → c * bucketSize z + a ≤ length flash

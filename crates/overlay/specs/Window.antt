@@ -17,7 +17,13 @@ use Rattle.image.specs.Chip.{spareOnly}
 abbrev pub chip : (flash spare : List ℕ) → Device
 chip flash spare = device flash spare []
 
--- a chip that numbers 1, 2 and 4 let pass
+-- a spare area that numbers 1, 2 and 4 let pass
+pub record Tagged (z : Sizes) (spare : List ℕ) : Type 0 where
+  pub limits : Limits z
+  pub spare-length : length spare ≡ spareSize z
+  pub well-formed : wellFormed z (spareOnly spare) ≡ true
+
+-- a chip that they let pass
 pub record Readable (z : Sizes) (flash spare : List ℕ) : Type 0 where
   pub limits : Limits z
   pub flash-length : length flash ≡ flashSize z

@@ -6,7 +6,7 @@ use Rattle.model.specs.declared.Sizes.{Sizes}
 use Rattle.model.specs.Sizes.{Device}
 use Rattle.model.specs.Stores.{tagOf, bucketBytes}
 use Rattle.model.specs.Image.{endsLog, logBytes, mergeTo, merge}
-use Rattle.merge.specs.Window.{chip}
+use Rattle.overlay.specs.Window.{chip}
 
 module _ (z : Sizes) (d : Device) (c : ℕ) (base : List ℕ) where
   pub same-merge-to : (n : ℕ) → mergeTo z (chip (d .flash) (d .spare)) c base n ≡ mergeTo z d c base n

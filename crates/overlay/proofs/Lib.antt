@@ -1,0 +1,4 @@
+pub mod SameChip
+pub mod Logs
+pub mod Found
+pub mod Woven

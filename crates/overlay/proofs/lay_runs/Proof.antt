@@ -1,0 +1,92 @@
+use Rattle.overlay.proofs.Woven.{tagged-of, stored, lent-step, lent-all}
+use Rattle.overlay.specs.Runs.{Shows}
+use Rattle.overlay.specs.Window.{chip}
+use Rattle.model.specs.Recover.{mergeAll}
+use Rattle.geometry.proofs.Passed.{products}
+use Rattle.model.specs.Sizes.{bucketSize}
+use Rattle.lists.proofs.Splices.{splice-none}
+use Rattle.lists.specs.Lists.{part, splice}
+use lib.ListN.{length}
+use native.Mathlib.Omega.{arith}
+use native.Mathlib.Nat.{le-refl}
+use mathlib.Core.List.{List}
+use mathlib.Core.Logic.{_⊎_, inl, inr}
+use mathlib.Core.Path.{_≡_, refl, sym, ap, _∙_}
+use Prim.Native.Nat.{ℕ, _+_, _-_, _≤_, _<_}
+use Rattle.overlay.proofs.lay_runs.Statement.{statement}
+use Rattle.overlay.proofs.lay_runs.Tie as tie
+
+abbrev Inv-loop : tie.InvT-loop
+Inv-loop z list from flash spare under window₀ stop x₀ window x =
+    (from ≤ x) × (x ≤ stop) × (stop ≡ from + length window₀) × (length window ≡ length window₀)
+    × ((whole : List ℕ) → length whole ≡ bucketSize z → Shows whole under from window₀ → window ≡ splice window₀ 0 (part (mergeAll z (chip flash spare) list whole) from (x - from)))
+
+abbrev μ-loop : tie.MeasureT-loop
+μ-loop z list from flash spare under window₀ stop x₀ window x = stop - x
+
+-- the window lies within a bucket
+small : (c : tie.Start Inv-loop μ-loop) → c .args .«from» + length (c .args .window .now) ≤ 65536
+unfolding bucketSize
+small c = omega (arith, c .pre .1 .1 .1, products (c .pre .0 .limits) .bucket)
+
+-- what is lent is there up to every run's end
+lent-run : (c : tie.Start Inv-loop μ-loop) (end : ℕ) → end ≤ bucketSize (c .args .z) → (length (c .args .under .now) ≡ 0) ⊎ (end ≤ length (c .args .under .now))
+lent-run c end h = go (c .pre .1 .1 .0)
+  where
+    go : (length (c .args .under .now) ≡ 0) ⊎ (length (c .args .under .now) ≡ bucketSize (c .args .z)) → (length (c .args .under .now) ≡ 0) ⊎ (end ≤ length (c .args .under .now))
+    go (inl none) = inl none
+    go (inr all) = inr (omega arith)
+
+add-stop : tie.Need-add-stop Inv-loop μ-loop
+add-stop c = omega (arith, small (c .before .before .before .before .before))
+
+loop-holds : tie.Need-loop-holds Inv-loop μ-loop
+unfolding part
+loop-holds c = let a = c .before .before .before .before .before .args in
+    let none : a .«from» - a .«from» ≡ 0 = omega arith in
+    (le-refl (a .«from»), omega arith, refl, refl, λ whole size shows. rw none (sym (splice-none (a .window .now) 0)))
+
+run-at-requires : tie.Need-run-at-requires Inv-loop μ-loop
+run-at-requires c κs = let start = c .before .before .before .before .before .before .before in let l = c .before .loop in
+    (tagged-of (start .pre .0), (start .pre .1 .0, (c .loop-test .taken, omega (arith, l .inv .2, start .pre .1 .1 .1))))
+
+lay-run-requires : tie.Need-lay-run-requires Inv-loop μ-loop
+lay-run-requires c κs = let start = c .before .before .before .before .before .before .before .before .before in let l = c .before .before .before .loop in let runs = c .before .run-at .ensures in
+    record { first = l .inv .0; some = runs .some; last = omega (arith, runs .most, l .inv .2, l .inv .3); stored = stored (start .pre .0) runs; lent = lent-run start (c .before .run-at .result .end) (omega (arith, runs .most, l .inv .2, start .pre .1 .1 .1)) }
+
+loop-less : tie.Need-loop-less Inv-loop μ-loop
+loop-less c = let runs = c .before .before .before .before .run-at .ensures in omega (arith, runs .some, runs .most)
+
+loop-again : tie.Need-loop-again Inv-loop μ-loop
+loop-again c = let start = c .before .before .before .before .before .before .before .before .before .before .before .before in let l = c .before .before .before .before .before .before .loop in let runs = c .before .before .before .before .run-at .ensures in
+    let a = start .args in (
+      omega (arith, runs .some, l .inv .0),
+      runs .most,
+      l .inv .2,
+      omega (arith, c .before .window .given, l .inv .3),
+      λ whole size shows. rw (c .before .before .lay-run .ensures) (lent-step (start .pre .0) (a .list .now) (start .pre .1 .0) whole size (a .«from») (start .pre .1 .1 .1) shows (l .inv .0) (rw (l .inv .2) at runs) (l .inv .4 whole size shows)),
+    )
+
+same-length : tie.Need-same-length Inv-loop μ-loop
+same-length c = let l = c .before .loop in omega (arith, l .inv .3)
+
+returns : tie.Need-returns Inv-loop μ-loop
+returns c = let start = c .before .before .before .before .before .before .before in let l = c .before .loop in let a = start .args in
+    λ whole size shows.
+    let all : l .x - a .«from» ≡ length (a .window .now) = omega (arith, c .loop-test .left, l .inv .0, l .inv .1, l .inv .2) in
+    l .inv .4 whole size shows ∙ rw all (lent-all (start .pre .0) (a .list .now) (start .pre .1 .0) whole size (a .«from») (start .pre .1 .1 .1) shows)
+
+pub lay-runs-spec : {M : Type 1} → statement M
+lay-runs-spec =
+    tie.close
+    (tie.spec
+    Inv-loop
+    μ-loop
+    add-stop
+    loop-holds
+    run-at-requires
+    lay-run-requires
+    loop-less
+    loop-again
+    same-length
+    returns)

@@ -1,0 +1,241 @@
+// The complete logs of cache buckets over the bytes that lie under them. Each byte is copied once: from the last log that covers it, or from
+// under the logs. The whole is all bytes of a back-end bucket; a run is a part of it that one log covers last, or none.
+use model::Sizes;
+ghost use mathlib.Core.Path.{_≡_};
+ghost use mathlib.Core.Bool.{true, _&&_};
+ghost use mathlib.Core.Logic.{_⊎_};
+ghost use mathlib.Core.List.{List, [], _∷_};
+ghost use Prim.Native.Nat.{ℕ, _+_, _-_, _*_, _≤_, _<_, min};
+ghost use lib.ListN.{length, take};
+ghost use lib.Dec.{leb, ltb};
+ghost use Rattle.lists.specs.Lists.{if_then_else_, all, splice, part};
+ghost use Rattle.model.specs.Sizes.{bucketSize, body};
+ghost use Rattle.model.specs.State.{isBelow};
+ghost use Rattle.model.specs.Recover.{mergeAll};
+ghost use Rattle.overlay.specs.Window.{Turns, Tagged, Readable, chip};
+ghost use Rattle.overlay.specs.Runs.{Lays, Runs, Laid, lentOver, Moves, movedOver, Shows, beneath, Aside};
+
+// The bytes of the whole that a log covers, from `low` up to `high`, and where they lie in the flash.
+pub struct Extent {
+    pub low: usize,
+    pub high: usize,
+    pub at: usize,
+}
+
+// The bytes of the whole up to `end`; if a log covers them, they lie in the flash from `at` on.
+pub struct Run {
+    pub covered: bool,
+    pub at: usize,
+    pub end: usize,
+}
+
+pub fn smaller(a: usize, b: usize) -> usize
+    ensures { λ r. ⌜ r ≡ min a b ⌝ }
+{
+    if a < b { a } else { b }
+}
+
+// What the log covers that ends at page k; nothing, if no complete one does.
+fn log_at(z: Sizes, c: usize, k: usize, spare: &[u8]) -> Extent
+    requires { ⌜ Tagged z (now spare) ⌝ }
+    requires { ⌜ (c < body z) × (k < z .p) ⌝ }
+    ensures { λ r. ⌜ Lays z (now (spare .entry)) c k r ⌝ }
+{
+    if !image::ends_log(z, c, k, spare) {
+        return Extent {
+            low: 0,
+            high: 0,
+            at: 0,
+        };
+    }
+    let f = spare::fields_at(spare, c * z.p + k);
+    let low = f.offset as usize;
+    let high = low + (f.last as usize + 1);
+    let first = k + 1 - f.pages as usize;
+    let at = c * (z.p * z.s) + first * z.s;
+    Extent { low, high, at }
+}
+
+fn covers(log: Extent, x: usize) -> bool
+    ensures { λ r. ⌜ r ≡ (leb (log .low) x && ltb x (log .high)) ⌝ }
+{
+    (log.low <= x) & (x < log.high)
+}
+
+// A run from x on ends where a later log begins.
+fn shortened(x: usize, end: usize, log: Extent) -> usize
+    ensures { λ r. ⌜ r ≡ (if ltb x (log .low) then min end (log .low) else end) ⌝ }
+{
+    if x < log.low {
+        return smaller(end, log.low);
+    }
+    end
+}
+
+// The run from x on, of the logs of one bucket. They are looked at from the last on: the first that covers x is the last that does.
+fn run_in(z: Sizes, c: usize, x: usize, stop: usize, spare: &[u8]) -> Run
+    requires { ⌜ Tagged z (now spare) ⌝ }
+    requires { ⌜ (c < body z) × (x < stop) × (stop ≤ bucketSize z) ⌝ }
+    ensures { λ r. ⌜ Runs z (now (spare .entry)) (c ∷ []) x stop r ⌝ }
+{
+    let mut end = stop;
+    let mut k = z.p;
+    while 0 < k {
+        k -= 1;
+        let log = log_at(z, c, k, spare);
+        if covers(log, x) {
+            return Run {
+                covered: true,
+                at: log.at + (x - log.low),
+                end: smaller(end, log.high),
+            };
+        }
+        end = shortened(x, end, log);
+    }
+    Run {
+        covered: false,
+        at: 0,
+        end,
+    }
+}
+
+// The run from x on, of the logs of all listed buckets, the newest last.
+fn run_at(z: Sizes, list: &[u8], x: usize, stop: usize, spare: &[u8]) -> Run
+    requires { ⌜ Tagged z (now spare) ⌝ }
+    requires { ⌜ all (isBelow (body z)) (now list) ≡ true ⌝ }
+    requires { ⌜ (x < stop) × (stop ≤ bucketSize z) ⌝ }
+    ensures { λ r. ⌜ Runs z (now (spare .entry)) (now (list .entry)) x stop r ⌝ }
+{
+    let mut end = stop;
+    let mut j = list.len();
+    while 0 < j {
+        j -= 1;
+        let run = run_in(z, list[j] as usize, x, end, spare);
+        if run.covered {
+            return run;
+        }
+        end = run.end;
+    }
+    Run {
+        covered: false,
+        at: 0,
+        end,
+    }
+}
+
+// A run goes into the window, which shows the whole from an index on. With nothing lent to lie under the logs, the window shows it already.
+fn lay_run(run: Run, x: usize, from: usize, flash: &[u8], under: &[u8], window: &mut [u8])
+    requires { ⌜ Laid run x from (length (now flash)) (length (now under)) (length (now window)) ⌝ }
+    ensures { λ _. ⌜ now (window .exit) ≡ lentOver run x from (now (flash .entry)) (now (under .entry)) (now (window .entry)) ⌝ }
+{
+    let stop = run.end;
+    if run.covered {
+        let at = run.at;
+        let end = at + (stop - x);
+        area::write_at(window, x - from, &flash[at..end]);
+        return;
+    }
+    if under.len() != 0 {
+        area::write_at(window, x - from, &under[x..stop]);
+    }
+}
+
+// Run by run.
+fn lay_runs(
+    z: Sizes,
+    list: &[u8],
+    from: usize,
+    flash: &[u8],
+    spare: &[u8],
+    under: &[u8],
+    window: &mut [u8],
+)
+    requires { ⌜ Readable z (now flash) (now spare) ⌝ }
+    requires { ⌜ all (isBelow (body z)) (now list) ≡ true ⌝ }
+    requires { ⌜ (length (now under) ≡ 0) ⊎ (length (now under) ≡ bucketSize z) ⌝ }
+    requires { ⌜ from + length (now window) ≤ bucketSize z ⌝ }
+    ensures { λ _. ⌜ ((whole : List ℕ) → length whole ≡ bucketSize z → Shows whole (now (under .entry)) from (now (window .entry)) → now (window .exit) ≡ part (mergeAll z (chip (now (flash .entry)) (now (spare .entry))) (now (list .entry)) whole) from (length (now (window .entry)))) ⌝ }
+{
+    let stop = from + window.len();
+    let mut x = from;
+    while x < stop {
+        let run = run_at(z, list, x, stop, spare);
+        lay_run(run, x, from, flash, under, window);
+        x = run.end;
+    }
+}
+
+// The window comes to show, from an index on, the logs of the listed buckets over the bytes lent to lie under them.
+pub fn lay_out(
+    z: Sizes,
+    list: &[u8],
+    from: usize,
+    flash: &[u8],
+    spare: &[u8],
+    under: &[u8],
+    window: &mut [u8],
+)
+    requires { ⌜ Readable z (now flash) (now spare) ⌝ }
+    requires { ⌜ all (isBelow (body z)) (now list) ≡ true ⌝ }
+    requires { ⌜ length (now under) ≡ bucketSize z ⌝ }
+    requires { ⌜ from + length (now window) ≤ bucketSize z ⌝ }
+    ensures { λ _. ⌜ now (window .exit) ≡ part (mergeAll z (chip (now (flash .entry)) (now (spare .entry))) (now (list .entry)) (now (under .entry))) from (length (now (window .entry))) ⌝ }
+{
+    lay_runs(z, list, from, flash, spare, under, window);
+}
+
+// The window shows a base from an index on, and then the base with the logs of the listed buckets over it.
+pub fn lay_over(z: Sizes, list: &[u8], from: usize, flash: &[u8], spare: &[u8], window: &mut [u8])
+    requires { ⌜ Readable z (now flash) (now spare) ⌝ }
+    requires { ⌜ all (isBelow (body z)) (now list) ≡ true ⌝ }
+    requires { ⌜ from + length (now window) ≤ bucketSize z ⌝ }
+    ensures { λ _. ⌜ ((base : List ℕ) → length base ≡ bucketSize z → Turns from base (mergeAll z (chip (now (flash .entry)) (now (spare .entry))) (now (list .entry)) base) (now (window .entry)) (now (window .exit))) ⌝ }
+{
+    lay_runs(z, list, from, flash, spare, &flash[..0], window);
+}
+
+// A run goes into the flash itself, where the whole begins at the index `to`; what lies under the logs is lent, or begins at the index `base`.
+fn move_run(run: Run, x: usize, base: usize, to: usize, under: &[u8], flash: &mut [u8])
+    requires { ⌜ Moves run x base to (length (now under)) (length (now flash)) ⌝ }
+    ensures { λ _. ⌜ now (flash .exit) ≡ movedOver run x base to (now (under .entry)) (now (flash .entry)) ⌝ }
+{
+    let end = run.end;
+    if run.covered {
+        area::move_within(flash, run.at, to + x, end - x);
+        return;
+    }
+    if under.len() == 0 {
+        area::move_within(flash, base + x, to + x, end - x);
+        return;
+    }
+    area::write_at(flash, to + x, &under[x..end]);
+}
+
+// The first n bytes of the whole come to stand in the cache bucket `target`: the logs of the listed buckets over the bytes lent to lie under
+// them, or, if none are lent, over those of the cache bucket `base`.
+pub fn lay_within(
+    z: Sizes,
+    list: &[u8],
+    base: usize,
+    under: &[u8],
+    target: usize,
+    n: usize,
+    flash: &mut [u8],
+    spare: &[u8],
+)
+    requires { ⌜ Readable z (now flash) (now spare) ⌝ }
+    requires { ⌜ all (isBelow (body z)) (now list) ≡ true ⌝ }
+    requires { ⌜ (target < z .c) × (base < z .c) × (n ≤ bucketSize z) ⌝ }
+    requires { ⌜ Aside z (now list) base (now under) target ⌝ }
+    ensures { λ _. ⌜ now (flash .exit) ≡ splice (now (flash .entry)) (target * bucketSize z) (take n (mergeAll z (chip (now (flash .entry)) (now (spare .entry))) (now (list .entry)) (beneath z (now (flash .entry)) base (now (under .entry))))) ⌝ }
+{
+    let size = z.p * z.s;
+    let to = target * size;
+    let under_at = base * size;
+    let mut x = 0;
+    while x < n {
+        let run = run_at(z, list, x, n, spare);
+        move_run(run, x, under_at, to, under, flash);
+        x = run.end;
+    }
+}
