@@ -1,1 +1,3 @@
 pub mod Pages
+pub mod Tagged
+pub mod Spliced

@@ -1,4 +1,5 @@
 // A log, programmed page by page under the allowance.
+// Code that lays the bytes of its pages itself, at one go, writes their spare bytes behind: the law of `proofs/Spliced`.
 use device::Store;
 use meter::Meter;
 use model::Sizes;
@@ -6,13 +7,12 @@ use spare::Fields;
 ghost use mathlib.Core.Path.{_≡_};
 ghost use Prim.Native.Nat.{_+_, _*_, _≤_, _<_};
 ghost use lib.ListN.{length};
-ghost use Rattle.model.specs.Sizes.{pagesFor};
-ghost use Rattle.model.specs.Spare.{tagBytes};
-ghost use Rattle.lists.specs.Lists.{ff};
+ghost use Rattle.model.specs.Sizes.{spareSize, pageIndex, pagesFor};
+ghost use Rattle.lists.specs.Lists.{splice, ff};
 ghost use Rattle.spare.specs.Fields.{tag};
 ghost use Rattle.geometry.specs.Geometry.{Lent};
 ghost use Rattle.meter.specs.Run.{running, step, runAll};
-ghost use Rattle.log.specs.Logs.{storeOf, pageStore, allStores, Fits};
+ghost use Rattle.log.specs.Logs.{pageTag, tags, storeOf, pageStore, allStores, Fits};
 
 // Where a log goes, from page `first` of a cache bucket on, and what its spare bytes say.
 pub struct Log {
@@ -27,7 +27,7 @@ pub struct Log {
 // What the spare bytes of page o of a log of n bytes say.
 fn page_fields(z: Sizes, log: Log, n: usize, o: usize) -> Fields
     requires { ⌜ Fits z log n × (o < pagesFor z n) ⌝ }
-    ensures { λ r. ⌜ tag r ≡ tagBytes (log .kind) o (pagesFor z n) (log .epoch) (log .back) (log .offset) n ⌝ }
+    ensures { λ r. ⌜ tag r ≡ pageTag z log n o ⌝ }
 {
     let pages = geometry::pages_for(z, n);
     let last = n - 1;
@@ -178,4 +178,27 @@ pub fn program_log(
         o += 1;
     }
     run
+}
+
+// The spare bytes of page o of a log of n bytes.
+fn write_tag(z: Sizes, log: Log, n: usize, o: usize, spare: &mut [u8])
+    requires { ⌜ Fits z log n × (o < pagesFor z n) × (length (now spare) ≡ spareSize z) ⌝ }
+    ensures { λ _. ⌜ now (spare .exit) ≡ splice (now (spare .entry)) (pageIndex z (log .bucket) (log .first + o) * 16) (pageTag z log n o) ⌝ }
+{
+    let fields = page_fields(z, log, n, o);
+    let tag = spare::encode(fields);
+    let at = (log.bucket * z.p + (log.first + o)) * 16;
+    area::write_at(spare, at, &tag);
+}
+
+// Those of its first pages, so many.
+pub fn write_tags(z: Sizes, log: Log, n: usize, count: usize, spare: &mut [u8])
+    requires { ⌜ Fits z log n × (count ≤ pagesFor z n) × (length (now spare) ≡ spareSize z) ⌝ }
+    ensures { λ _. ⌜ now (spare .exit) ≡ splice (now (spare .entry)) (pageIndex z (log .bucket) (log .first) * 16) (tags z log n count) ⌝ }
+{
+    let mut o = 0;
+    while o < count {
+        write_tag(z, log, n, o, spare);
+        o += 1;
+    }
 }
