@@ -1,19 +1,21 @@
 -- Where the bytes of a back-end bucket are; base and merged bytes are as many as a bucket has.
 use Rattle.model.proofs.Limits.{on-chip}
 use Prim.Native.Nat.{ℕ, _<_}
-use mathlib.Core.Path.{_≡_, sym, ap, _∙_}
+use mathlib.Core.Path.{_≡_, refl, sym, ap, _∙_}
 use mathlib.Core.Bool.{Bool, true, false}
-use mathlib.Core.List.{List}
+use mathlib.Core.List.{List, [], _∷_}
 use native.Mathlib.Nat.{le-refl}
 use native.Mathlib.Omega.{arith}
 use lib.ListN.{length}
 use lib.Seq.{take-all}
 use Rattle.lists.specs.Lists.{if_then_else_, part}
-use Rattle.model.specs.Sizes.{bucketSize, body}
+use Rattle.model.specs.declared.Sizes.{Sizes}
+use Rattle.model.specs.Sizes.{Device, bucketSize, body}
 use Rattle.model.specs.Stores.{bucketBytes, diskBytes}
 use Rattle.model.specs.Image.{wellFormed, merge}
-use Rattle.model.specs.State.{State, holds, cacheOf}
+use Rattle.model.specs.State.{State, holds, cacheOf, cachesOf}
 use Rattle.model.specs.Steps.{baseBytes, merged}
+use Rattle.model.specs.Recover.{mergeAll}
 use Rattle.model.proofs.Frames.{Lengths, length-bucket, length-disk}
 use Rattle.geometry.specs.Geometry.{device, Lent}
 use Rattle.geometry.proofs.Passed.{lengths-of}
@@ -78,3 +80,12 @@ module _ {s : State} {b : ℕ} {flash spare disk : List ℕ} (sources : Sources 
       → part (merged (s .sizes) s (device flash spare disk) b) 0 n ≡ merged (s .sizes) s (device flash spare disk) b
   unfolding part
   all-shown n h = take-all n (merged (s .sizes) s (device flash spare disk) b) (omega (arith, merged-size))
+
+-- the logs of the Write bucket, if there is one, lie over the base
+pub merged-all : (z : Sizes) (s : State) (d : Device) (b : ℕ) → merged z s d b ≡ mergeAll z d (cachesOf b (s .writes)) (baseBytes z s d b)
+unfolding merged mergeAll cachesOf
+merged-all z s d b = at (holds b (s .writes))
+  where
+    at : (t : Bool) → (if t then merge z d (cacheOf b (s .writes)) (baseBytes z s d b) else baseBytes z s d b) ≡ mergeAll z d (if t then cacheOf b (s .writes) ∷ [] else []) (baseBytes z s d b)
+    at true = refl
+    at false = refl
