@@ -1,24 +1,43 @@
 -- The units of a back-end bucket that an allowance lets be made are one splice into the disk.
 use Prim.Native.Nat.{ℕ, zero, suc, _+_, _-_, _*_, _≤_, _<_, min}
-use mathlib.Core.Path.{_≡_}
+use mathlib.Core.Path.{_≡_, sym, ap, _∙_}
 use mathlib.Core.Bool.{false, _||_, or-true, or-false}
 use mathlib.Core.List.{List, [], _∷_}
-use native.Mathlib.Nat.{add-mul, mul-assoc, suc-mul, zero-mul, mul-le-mul-right, sub-zero}
+use native.Mathlib.Nat.{add-zero, add-mul, mul-assoc, suc-mul, zero-mul, mul-le-mul-right, sub-zero}
 use native.Mathlib.Decide.{decLt}
 use native.Mathlib.Omega.{arith}
 use lib.ListN.{length, take, drop}
 use lib.Seq.{take-add, length-take-le}
 use lib.Dec.{ltb, eqb}
 use borrow.Author.Tests.{lt-ltb, le-ltb, ne-eqb}
+use borrow.Rule.Slice.PartMut.{midOf, putMid}
 use Rattle.lists.specs.Lists.{row, splice, part}
+use Rattle.lists.proofs.Parts.{length-splice}
 use Rattle.lists.proofs.Splices.{splice-none, splice-next}
+use Rattle.lists.proofs.Windows.{part-part}
+use Rattle.lists.proofs.Lent.{put-back, lent-part, lent-length}
 use Rattle.model.specs.declared.Sizes.{Sizes}
-use Rattle.model.specs.Sizes.{bucketSize}
+use Rattle.model.specs.Sizes.{bucketSize, diskSize}
 use Rattle.model.specs.Stores.{apply, unitStore, unitStores}
+use Rattle.geometry.proofs.Places.{nth-inside}
 use Rattle.meter.specs.declared.Meter.{Meter}
 use Rattle.meter.specs.Run.{Run, running, step, runAll}
 use Rattle.meter.proofs.Runs.{run-append}
 use Rattle.units.specs.Spent.{allowed, spent}
+
+-- the bytes of a back-end bucket lie on the disk, and those of the units that are made lie among them
+pub bytes-inside : (z : Sizes) (b : ℕ) (disk : List ℕ) → b < z .b → length disk ≡ diskSize z → b * bucketSize z + bucketSize z ≤ length disk
+unfolding diskSize
+bytes-inside z b disk back len = omega (arith, nth-inside b (z .b) (bucketSize z) back, len)
+
+pub made-inside : (z : Sizes) (m : Meter) {count : ℕ} → count ≡ allowed z m → count * z .s ≤ bucketSize z
+unfolding bucketSize
+made-inside z m many = mul-le-mul-right (z .s) (omega (arith, many))
+
+-- a part of the disk that is lent for the first n of a back-end bucket's m bytes shows them
+pub lent-shows : (l : List ℕ) (i m n : ℕ) → n ≤ m → i + m ≤ length l → midOf i ((i + n) - i) l ≡ part (part l i m) 0 (length (midOf i ((i + n) - i) l))
+lent-shows l i m n h f =
+    rw (lent-length l i n (omega arith), lent-part l i n) (sym (part-part l i m 0 n (omega arith) f ∙ ap (λ (k : ℕ). part l k n) (add-zero i)))
 
 module _ (z : Sizes) (b : ℕ) (bytes flash spare disk : List ℕ) (m : Meter) (size : length bytes ≡ bucketSize z) (inside : b * bucketSize z + bucketSize z ≤ length disk) where
   -- so many of the bucket's bytes on the disk
@@ -72,3 +91,29 @@ module _ (z : Sizes) (b : ℕ) (bytes flash spare disk : List ℕ) (m : Meter) (
   pub units-spliced : runAll z (unitStores z b bytes) (running flash spare disk m) ≡ running flash spare (written (allowed z m * z .s)) (spent z m)
   unfolding unitStores spent
   units-spliced = row-spliced (z .p) (omega arith)
+
+  -- code lends the part of the disk for them, and it comes back with their bytes
+  module _ {count : ℕ} {back : List ℕ} {left : Meter} (many : count ≡ allowed z m) (rest : left ≡ spent z m)
+      (laid : back ≡ part bytes 0 (length (midOf (b * bucketSize z) ((b * bucketSize z + count * z .s) - b * bucketSize z) disk))) where
+    abbrev at : ℕ
+    at = b * bucketSize z
+
+    abbrev n : ℕ
+    n = count * z .s
+
+    shown : back ≡ take n bytes
+    unfolding part
+    shown = rw (lent-length disk at n (omega (arith, made-inside z m many, inside))) at laid
+
+    all : length (take n bytes) ≡ n
+    all = length-take-le n bytes (omega (arith, made-inside z m many, size))
+
+    put : putMid at ((at + n) - at) disk back ≡ written n
+    put = put-back disk at n shown all
+
+    pub units-laid : (running flash spare (putMid at ((at + n) - at) disk back) left ≡ runAll z (unitStores z b bytes) (running flash spare disk m))
+        × (length (putMid at ((at + n) - at) disk back) ≡ length disk)
+    units-laid = (
+      rw (rest, put, many) (sym units-spliced),
+      ap length put ∙ length-splice disk at (take n bytes) (omega (arith, all, made-inside z m many, inside)),
+    )
