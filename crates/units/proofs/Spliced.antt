@@ -88,32 +88,34 @@ module _ (z : Sizes) (b : ℕ) (bytes flash spare disk : List ℕ) (m : Meter) (
       go (yes more) = made n h more
       go (no none) = cut n (omega arith)
 
-  pub units-spliced : runAll z (unitStores z b bytes) (running flash spare disk m) ≡ running flash spare (written (allowed z m * z .s)) (spent z m)
+  units-spliced : runAll z (unitStores z b bytes) (running flash spare disk m) ≡ running flash spare (written (allowed z m * z .s)) (spent z m)
   unfolding unitStores spent
   units-spliced = row-spliced (z .p) (omega arith)
 
-  -- code lends the part of the disk for them, and it comes back with their bytes
-  module _ {count : ℕ} {back : List ℕ} {left : Meter} (many : count ≡ allowed z m) (rest : left ≡ spent z m)
-      (laid : back ≡ part bytes 0 (length (midOf (b * bucketSize z) ((b * bucketSize z + count * z .s) - b * bucketSize z) disk))) where
+-- code lends the part of the disk for the units that are made, and it comes back with their bytes
+module _ (z : Sizes) (b : ℕ) (bytes disk : List ℕ) (m : Meter) (size : length bytes ≡ bucketSize z) (inside : b * bucketSize z + bucketSize z ≤ length disk) where
+  module _ {count : ℕ} {back : List ℕ} (many : count ≡ allowed z m) (laid : back ≡ part bytes 0 (length (midOf (b * bucketSize z) ((b * bucketSize z + count * z .s) - b * bucketSize z) disk))) where
     abbrev at : ℕ
     at = b * bucketSize z
 
     abbrev n : ℕ
     n = count * z .s
 
+    abbrev after : List ℕ
+    after = putMid at ((at + n) - at) disk back
+
     shown : back ≡ take n bytes
     unfolding part
-    shown = rw (lent-length disk at n (omega (arith, made-inside z m many, inside))) at laid
+    shown = rw (lent-length disk at n (omega (arith, made-inside z m many))) at laid
 
     all : length (take n bytes) ≡ n
-    all = length-take-le n bytes (omega (arith, made-inside z m many, size))
+    all = length-take-le n bytes (omega (arith, made-inside z m many))
 
-    put : putMid at ((at + n) - at) disk back ≡ written n
+    put : after ≡ splice disk at (take n bytes)
     put = put-back disk at n shown all
 
-    pub units-laid : (running flash spare (putMid at ((at + n) - at) disk back) left ≡ runAll z (unitStores z b bytes) (running flash spare disk m))
-        × (length (putMid at ((at + n) - at) disk back) ≡ length disk)
-    units-laid = (
-      rw (rest, put, many) (sym units-spliced),
-      ap length put ∙ length-splice disk at (take n bytes) (omega (arith, all, made-inside z m many, inside)),
-    )
+    pub laid-length : length after ≡ length disk
+    laid-length = ap length put ∙ length-splice disk at (take n bytes) (omega (arith, all, made-inside z m many))
+
+    pub units-laid : {left : Meter} → left ≡ spent z m → (flash spare : List ℕ) → running flash spare after left ≡ runAll z (unitStores z b bytes) (running flash spare disk m)
+    units-laid rest flash spare = rw (rest, put, many) (sym (units-spliced z b bytes flash spare disk m size inside))

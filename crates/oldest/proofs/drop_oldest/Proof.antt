@@ -50,13 +50,11 @@ cast-write-out c = search needs
 
 write-out-requires : tie.Need-write-out-requires
 write-out-requires c κs =
-    let if1 = c .before .before .before .before .before .before .before .before .before .before .if1 in
-    let used = c .before .before .before .before .before .before .before .before .before .before .before .before .used in
-    let first = c .before .before .before .before .before .before .before .before .before .first in
-    let start = c .before .before .before .before .before .before .before .before .before .before .before .before .before .before .before .before .before in
+    let start = c .before .before .before .before .before .before .before .before .before .before .before .before .before .before .before .before in
+    let first = c .before .before .before .before .before .before .before .before .first in
     let v = placesOf (start .args .s) in
-    let full : v .sizes .r ≤ length (v .reads) = omega (arith, if1 .left, used .ensures .0) in (
-      start .pre .0,
+    let full : v .sizes .r ≤ length (v .reads) = omega (arith, c .before .before .before .before .before .before .before .before .before .if1 .left, c .before .before .before .before .before .before .before .before .before .before .before .used .ensures .0) in (
+      (start .pre .0 .flash-length, start .pre .0 .disk-length),
       record {
         limits = start .pre .1 .orderly .limits;
         back = rw (first .ensures) (start .pre .1 .back (some-read v (start .pre .1) full));
@@ -75,19 +73,16 @@ same-length-3 c = search needs
 
 returns-2 : tie.Need-returns-2
 returns-2 c =
-    let if1 = c .before .before .before .before .before .before .before .before .before .before .before .before .before .before .before .before .before .if1 in
-    let used = c .before .before .before .before .before .before .before .before .before .before .before .before .before .before .before .before .before .before .before .used in
-    let first = c .before .before .before .before .before .before .before .before .before .before .before .before .before .before .before .before .first in
-    let is-dirty = c .before .before .before .before .before .before .before .before .before .before .before .before .is-dirty in
-    let if2 = c .before .before .before .before .before .before .before .before .before .before .before .if2 in
-    let drop-oldest = c .before .before .before .before .before .before .before .before .before .before .before .before .before .before .before .drop-oldest in
-    let start = c .before .before .before .before .before .before .before .before .before .before .before .before .before .before .before .before .before .before .before .before .before .before .before .before in
+    let start = c .before .before .before .before .before .before .before .before .before .before .before .before .before .before .before .before .before .before .before in
+    let first = c .before .before .before .before .before .before .before .before .before .before .before .first in
     let a = start .args in
     let v = placesOf (a .s) in
     let d = device (a .flash .now) (a .spare .now) (a .disk .now) in
-    let full : ltb (length (v .reads)) (v .sizes .r) ≡ false = le-ltb (length (v .reads)) (v .sizes .r) (omega (arith, if1 .left, used .ensures .0)) in
-    let dirty : isDirty (v .sizes) d (getD (v .reads) 0 noEntry .cache) ≡ true = rw (← first .ensures) (sym (same-dirty (v .sizes) d (first .result .cache)) ∙ sym (is-dirty .ensures) ∙ if2 .taken) in
-    (rw (c .before .before .before .before .before .before .write-out .ensures .0, drop-oldest .ensures, first .ensures) (drop-dirty (v .sizes) v (running (a .flash .now) (a .spare .now) (a .disk .now) (a .meter)) full dirty), c .before .before .before .before .before .before .write-out .ensures .1)
+    let full : ltb (length (v .reads)) (v .sizes .r) ≡ false = le-ltb (length (v .reads)) (v .sizes .r) (omega (arith, c .before .before .before .before .before .before .before .before .before .before .before .before .if1 .left, c .before .before .before .before .before .before .before .before .before .before .before .before .before .before .used .ensures .0)) in
+    let dirty : isDirty (v .sizes) d (getD (v .reads) 0 noEntry .cache) ≡ true = rw (← first .ensures) (sym (same-dirty (v .sizes) d (first .result .cache)) ∙ sym (c .before .before .before .before .before .before .before .is-dirty .ensures) ∙ c .before .before .before .before .before .before .if2 .taken) in (
+      rw (c .before .before .write-out .ensures .0 (a .spare .now), c .before .before .before .before .before .before .before .before .before .before .drop-oldest .ensures, first .ensures) (drop-dirty (v .sizes) v (running (a .flash .now) (a .spare .now) (a .disk .now) (a .meter)) full dirty),
+      record { flash-length = start .pre .0 .flash-length; spare-length = start .pre .0 .spare-length; disk-length = c .before .before .write-out .ensures .1 },
+    )
 
 same-length-4 : tie.Need-same-length-4
 same-length-4 c = search needs
