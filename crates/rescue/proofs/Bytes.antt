@@ -1,17 +1,13 @@
 -- The rescued bytes: what lies under the logs, and that the spare area alone says which they are.
-use Prim.Native.Nat.{ℕ, _+_, _-_, _*_, _≤_, _<_}
+use Prim.Native.Nat.{ℕ, _*_, _<_}
 use mathlib.Core.Path.{_≡_, refl, sym, ap, _∙_}
 use mathlib.Core.Bool.{Bool, true, false}
 use mathlib.Core.List.{List, [], _∷_, List·Memᴰ}
-use native.Mathlib.Nat.{add-zero}
 use native.Mathlib.Omega.{arith}
 use lib.ListN.{length}
-use borrow.Rule.Slice.PartMut.{midOf}
 use Rattle.lists.specs.Lists.{if_then_else_, head, empty, member, part}
 use Rattle.lists.proofs.Tests.{or-right}
 use Rattle.lists.proofs.Counts.{mem-times}
-use Rattle.lists.proofs.Lent.{lent-part, lent-length}
-use Rattle.lists.proofs.Windows.{part-part}
 use Rattle.lists.proofs.Orders.{times-sort}
 use Rattle.model.specs.declared.Sizes.{Sizes}
 use Rattle.model.specs.Sizes.{Device, bucketSize, diskSize, body}
@@ -130,11 +126,6 @@ module _ {z : Sizes} {flash spare : List ℕ} (readable : Readable z flash spare
       go true h = ap length (sym (rescued-merged h) ∙ same-merge-all z d logs (baseBytes z d b))
           ∙ length-mergeAll z d (omega (arith, readable .limits .s-low)) lengths (formed-of z d (sym (same-well-formed z d) ∙ readable .well-formed)) logs below (baseBytes z d b) base-size
       go false h = ap length (sym (rescued-own h lost)) ∙ base-size
-
--- a part of the disk that is lent for the first n of b's bytes shows them
-pub lent-shows : (l : List ℕ) (i m n : ℕ) → n ≤ m → i + m ≤ length l → midOf i ((i + n) - i) l ≡ part (part l i m) 0 (length (midOf i ((i + n) - i) l))
-lent-shows l i m n h f =
-    rw (lent-length l i n (omega arith), lent-part l i n) (sym (part-part l i m 0 n (omega arith) f ∙ ap (λ (k : ℕ). part l k n) (add-zero i)))
 
 -- the stores depend on the disk's bytes of b, and on no other
 pub stores-same : (z : Sizes) (flash spare before after : List ℕ) (b : ℕ) → diskBytes z (device flash spare after) b ≡ diskBytes z (device flash spare before) b

@@ -1,34 +1,30 @@
 use Prim.Native.Nat.{_+_, _*_, _≤_}
-use mathlib.Core.Path.{_≡_, sym, ap, _∙_}
-use native.Mathlib.Nat.{mul-le-mul-right}
+use mathlib.Core.Path.{_∙_}
 use native.Mathlib.Omega.{arith}
-use lib.ListN.{length, take}
-use lib.Seq.{length-take-le}
+use lib.ListN.{length}
 use borrow.Author.Needs.{needs}
-use Rattle.lists.specs.Lists.{part}
-use Rattle.lists.proofs.Lent.{put-back, lent-length}
-use Rattle.lists.proofs.Parts.{length-splice}
-use Rattle.model.specs.Sizes.{bucketSize, diskSize}
+use Rattle.lists.proofs.Lent.{lent-length}
+use Rattle.model.specs.Sizes.{bucketSize}
 use Rattle.model.specs.Stores.{diskBytes}
 use Rattle.model.specs.Recover.{rescued, rescueStores}
 use Rattle.geometry.specs.Geometry.{device}
-use Rattle.geometry.proofs.Places.{nth-inside}
 use Rattle.geometry.proofs.Passed.{products}
-use Rattle.units.proofs.Spliced.{units-spliced}
-use Rattle.rescue.proofs.Bytes.{lent-shows, rescued-size, readable-of}
+use Rattle.units.proofs.Spliced.{bytes-inside, made-inside, lent-shows, laid-length, units-laid}
+use Rattle.rescue.proofs.Bytes.{rescued-size, readable-of}
 use Rattle.rescue.proofs.rescue_one.Statement.{statement}
 use Rattle.rescue.proofs.rescue_one.Tie as tie
 
 -- the bytes of b lie on the disk
 inside : (c : tie.Start) → c .args .b * (c .args .z .p * c .args .z .s) + c .args .z .p * c .args .z .s ≤ length (c .args .disk .now)
-unfolding bucketSize diskSize
-inside c = omega (arith, nth-inside (c .args .b) (c .args .z .b) (c .args .z .p * c .args .z .s) (c .pre .1 .1 .0), c .pre .0 .lent .disk-length)
+unfolding bucketSize
+inside c = bytes-inside (c .args .z) (c .args .b) (c .args .disk .now) (c .pre .1 .1 .0) (c .pre .0 .lent .disk-length)
 
 -- and so do those of the units that are made
 within : (c : tie.After-allowed) → c .allowed .result * c .before .before .before .before .before .before .before .before .before .args .z .s ≤ c .before .before .before .before .before .before .before .before .before .args .z .p * c .before .before .before .before .before .before .before .before .before .args .z .s
+unfolding bucketSize
 within c =
     let start = c .before .before .before .before .before .before .before .before .before in
-    mul-le-mul-right (start .args .z .s) (omega (arith, c .allowed .ensures))
+    made-inside (start .args .z) (start .args .meter) (c .allowed .ensures)
 
 mul-at : tie.Need-mul-at
 mul-at c =
@@ -76,26 +72,20 @@ same-length : tie.Need-same-length
 same-length c = search needs
 
 returns : tie.Need-returns
-unfolding rescueStores bucketSize diskBytes part
+unfolding rescueStores bucketSize diskBytes
 returns c =
     let start = c .before .before .before .before .before .before .before .before .before .before .before .before .before .before .before in
     let x = start .args in
     let d = device (x .flash .now) (x .spare .now) (x .disk .now) in
     let bytes = rescued (x .z) d (x .b) in
-    let readable = readable-of (start .pre .0) in
-    let at = x .b * (x .z .p * x .z .s) in
+    let len = start .pre .0 .lent .disk-length in
     let n = c .before .before .before .before .before .before .allowed .result * x .z .s in
-    let size : length bytes ≡ x .z .p * x .z .s = rescued-size readable (x .disk .now) (start .pre .0 .lent .disk-length) (x .b) (start .pre .1 .1 .0) (start .pre .1 .1 .1) in
     let fits : n ≤ x .z .p * x .z .s = within (c .before .before .before .before .before .before) in
-    let place = inside start in
-    let laid = rw (lent-length (x .disk .now) at n (omega arith)) at
-    (c .before .before .before .lay-rescued .ensures (x .disk .now) (start .pre .0 .lent .disk-length) (lent-shows (x .disk .now) at (x .z .p * x .z .s) n fits place)) in
-    let made : length (take n bytes) ≡ n = length-take-le n bytes (omega arith) in
-    let put = put-back (x .disk .now) at n {bs = take n bytes} laid made in (
-      rw (c .spent .ensures, put, c .before .before .before .before .before .before .allowed .ensures)
-          (sym (units-spliced (x .z) (x .b) bytes (x .flash .now) (x .spare .now) (x .disk .now) (x .meter) size place)),
-      ap length put ∙ length-splice (x .disk .now) at (take n bytes) (omega arith) ∙ start .pre .0 .lent .disk-length,
-    )
+    let shown = lent-shows (x .disk .now) (x .b * (x .z .p * x .z .s)) (x .z .p * x .z .s) n fits (inside start) in
+    let laid = c .before .before .before .lay-rescued .ensures (x .disk .now) len shown in
+    let size = rescued-size (readable-of (start .pre .0)) (x .disk .now) len (x .b) (start .pre .1 .1 .0) (start .pre .1 .1 .1) in
+    let many = c .before .before .before .before .before .before .allowed .ensures in
+    (units-laid (x .z) (x .b) bytes (x .disk .now) (x .meter) size (inside start) many laid (c .spent .ensures) (x .flash .now) (x .spare .now), laid-length (x .z) (x .b) bytes (x .disk .now) (x .meter) size (inside start) many laid ∙ len)
 
 pub rescue-one-spec : {M : Type 1} → statement M
 rescue-one-spec =
