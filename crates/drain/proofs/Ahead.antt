@@ -1,6 +1,6 @@
 -- While the units of one back-end bucket after the other are written, the bytes of those ahead stay as they were.
 use Prim.Native.Nat.{ℕ, _≤_, _<_}
-use mathlib.Core.Path.{_≡_, refl, sym, ap, _∙_}
+use mathlib.Core.Path.{_≡_, sym, ap, _∙_}
 use mathlib.Core.Bool.{Bool, true, false}
 use mathlib.Core.List.{List}
 use native.Mathlib.Omega.{arith}
@@ -21,22 +21,23 @@ use Rattle.overlay.proofs.SameChip.{same-merge}
 use Rattle.gather.specs.Sources.{Sources}
 use Rattle.gather.proofs.Gathered.{merged-size}
 
--- e has the chip of d, and the disk of d from the back-end bucket b on
-pub record Ahead (z : Sizes) (b : ℕ) (d e : Device) : Type 0 where
-  pub flash : e .flash ≡ d .flash
-  pub spare : e .spare ≡ d .spare
-  pub disk : (x : ℕ) → b ≤ x → diskBytes z e x ≡ diskBytes z d x
+-- the disk has its bytes from the back-end bucket b on still
+pub record Ahead (z : Sizes) (flash spare : List ℕ) (b : ℕ) (before now : List ℕ) : Type 0 where
+  pub same : (x : ℕ) → b ≤ x → diskBytes z (device flash spare now) x ≡ diskBytes z (device flash spare before) x
 
-pub ahead-start : (z : Sizes) (b : ℕ) (d : Device) → Ahead z b d d
-ahead-start z b d = record { flash = refl; spare = refl; disk = λ x h. refl }
+module _ {z : Sizes} {flash spare before now : List ℕ} {b : ℕ} (s : State) (ahead : Ahead z flash spare b before now) where
+  abbrev d : Device
+  d = device flash spare before
 
-module _ (z : Sizes) (s : State) (b : ℕ) {d e : Device} (a : Ahead z b d e) where
+  abbrev e : Device
+  e = device flash spare now
+
   base-ahead : baseBytes z s e b ≡ baseBytes z s d b
   unfolding baseBytes bucketBytes
-  base-ahead = rw (a .disk b (omega arith), a .flash)
+  base-ahead = rw (ahead .same b (omega arith))
 
   merge-ahead : (c : ℕ) (base : List ℕ) → merge z e c base ≡ merge z d c base
-  merge-ahead c base = sym (same-merge z e c base) ∙ rw (a .flash, a .spare) (same-merge z d c base)
+  merge-ahead c base = sym (same-merge z e c base) ∙ same-merge z d c base
 
   merged-ahead : merged z s e b ≡ merged z s d b
   unfolding merged
@@ -48,23 +49,15 @@ module _ (z : Sizes) (s : State) (b : ℕ) {d e : Device} (a : Ahead z b d e) wh
       at true = merge-ahead (cacheOf b (s .writes)) (baseBytes z s e b) ∙ ap (merge z d (cacheOf b (s .writes))) base-ahead
       at false = base-ahead
 
-  pub stores-ahead : drainStores z e s b ≡ drainStores z d s b
+  pub stores-ahead : unitStores z b (merged z s e b) ≡ drainStores z d s b
   unfolding drainStores
   stores-ahead = ap (unitStores z b) merged-ahead
 
 -- past the units of b
-module _ {s : State} {b : ℕ} {flash spare disk : List ℕ} (from : Sources s b flash spare disk) (meter : Meter) where
-  abbrev now : Device
-  now = device flash spare disk
-
-  pub ahead-more : {d : Device} {r : Run} → r ≡ runAll (s .sizes) (drainStores (s .sizes) now s b) (running flash spare disk meter)
-      → Ahead (s .sizes) b d now → (n : ℕ) → b < n → Ahead (s .sizes) n d (r .device)
-  unfolding drainStores
-  ahead-more e a n h =
-      let k = units-kept (s .sizes) b (merged (s .sizes) s now b) (from .back) (merged-size from) (running flash spare disk meter) (lengths-of (from .lent)) in
-      rw e
-      (record {
-        flash = k .flash ∙ a .flash;
-        spare = k .spare ∙ a .spare;
-        disk = λ x g. k .others x (λ q. omega arith) ∙ a .disk x (omega arith);
-      })
+pub ahead-more : {s : State} {b : ℕ} {flash spare before now after : List ℕ} {rest : Meter} (left : Meter) → Sources s b flash spare now
+    → running flash spare after rest ≡ runAll (s .sizes) (unitStores (s .sizes) b (merged (s .sizes) s (device flash spare now) b)) (running flash spare now left)
+    → Ahead (s .sizes) flash spare b before now → (n : ℕ) → b < n → Ahead (s .sizes) flash spare n before after
+ahead-more {s} {b} {flash} {spare} {before} {now} left from run ahead n h =
+    let z = s .sizes in
+    let kept = units-kept z b (merged z s (device flash spare now) b) (from .back) (merged-size from) (running flash spare now left) (lengths-of (from .lent)) in
+    record { same = λ x g. ap (λ (r : Run). diskBytes z (r .device) x) run ∙ kept .others x (λ q. omega arith) ∙ ahead .same x (omega arith) }

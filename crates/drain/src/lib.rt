@@ -6,124 +6,39 @@ use state::State;
 use steps::Turn;
 ghost use mathlib.Core.Path.{_≡_};
 ghost use mathlib.Core.List.{[]};
-ghost use Prim.Native.Nat.{_≤_};
 ghost use lib.ListN.{length};
-ghost use Rattle.model.specs.Sizes.{bucketSize};
-ghost use Rattle.model.specs.Operations.{drainStores, drain};
+ghost use Rattle.model.specs.Sizes.{diskSize};
+ghost use Rattle.model.specs.Operations.{drain};
 ghost use Rattle.model.specs.Calls.{drainCall, carryOut, call};
 ghost use Rattle.geometry.specs.Geometry.{device, Lent};
 ghost use Rattle.meter.specs.Run.{running, runAll};
 ghost use Rattle.state.specs.View.{placesOf, viewOf};
-ghost use Rattle.gather.specs.Sources.{Sources};
 ghost use Rattle.steps.specs.Turns.{reached, after};
 ghost use Rattle.outcome.specs.Handed.{handedBack, handed};
 ghost use Rattle.drain.specs.Listed.{Drains, Listed};
-
-// The units of b, gathered in a lent buffer.
-fn write_back(
-    meter: Meter,
-    s: State,
-    b: u16,
-    buffer: &mut [u8],
-    flash: &mut [u8],
-    spare: &mut [u8],
-    disk: &mut [u8],
-) -> Meter
-    requires { ⌜ Sources (placesOf s) b (now flash) (now spare) (now disk) ⌝ }
-    requires { ⌜ length (now buffer) ≡ bucketSize (s .sizes) ⌝ }
-    ensures { λ r. ⌜ running (now (flash .exit)) (now (spare .exit)) (now (disk .exit)) r ≡ runAll (s .sizes) (drainStores (s .sizes) (device (now (flash .entry)) (now (spare .entry)) (now (disk .entry))) (placesOf s) b) (running (now (flash .entry)) (now (spare .entry)) (now (disk .entry)) meter) ⌝ }
-    ensures { λ _. ⌜ Lent (s .sizes) (now (flash .exit)) (now (spare .exit)) (now (disk .exit)) ⌝ }
-{
-    gather::merged_into(s, b, flash, spare, disk, buffer);
-    units::write_units(meter, s.sizes, b as usize, buffer, flash, spare, disk)
-}
 
 // The units of each listed back-end bucket, in rising order.
 fn write_listed(
     meter: Meter,
     s: State,
     backs: &[u16],
-    buffer: &mut [u8],
-    flash: &mut [u8],
-    spare: &mut [u8],
+    flash: &[u8],
+    spare: &[u8],
     disk: &mut [u8],
 ) -> Meter
     requires { ⌜ Lent (s .sizes) (now flash) (now spare) (now disk) ⌝ }
     requires { ⌜ Listed (placesOf s) (now spare) (now backs) ⌝ }
-    requires { ⌜ length (now buffer) ≡ bucketSize (s .sizes) ⌝ }
-    ensures { λ r. ⌜ running (now (flash .exit)) (now (spare .exit)) (now (disk .exit)) r ≡ runAll (s .sizes) (drain (s .sizes) (placesOf s) (device (now (flash .entry)) (now (spare .entry)) (now (disk .entry))) .stores) (running (now (flash .entry)) (now (spare .entry)) (now (disk .entry)) meter) ⌝ }
-    ensures { λ _. ⌜ Lent (s .sizes) (now (flash .exit)) (now (spare .exit)) (now (disk .exit)) ⌝ }
+    ensures { λ r. ⌜ running (now (flash .entry)) (now (spare .entry)) (now (disk .exit)) r ≡ runAll (s .sizes) (drain (s .sizes) (placesOf s) (device (now (flash .entry)) (now (spare .entry)) (now (disk .entry))) .stores) (running (now (flash .entry)) (now (spare .entry)) (now (disk .entry)) meter) ⌝ }
+    ensures { λ _. ⌜ length (now (disk .exit)) ≡ diskSize (s .sizes) ⌝ }
 {
     let end = s.sizes.b;
     let mut left = meter;
     let mut b = order::next_of(backs, 0, end);
     while b < end {
-        left = write_back(left, s, b as u16, buffer, flash, spare, disk);
+        left = gather::write_merged(left, s, b as u16, flash, spare, disk);
         b = order::next_of(backs, b + 1, end);
     }
     left
-}
-
-fn write_small(
-    meter: Meter,
-    s: State,
-    backs: &[u16],
-    flash: &mut [u8],
-    spare: &mut [u8],
-    disk: &mut [u8],
-) -> Meter
-    requires { ⌜ Lent (s .sizes) (now flash) (now spare) (now disk) ⌝ }
-    requires { ⌜ Listed (placesOf s) (now spare) (now backs) ⌝ }
-    requires { ⌜ bucketSize (s .sizes) ≤ 2048 ⌝ }
-    ensures { λ r. ⌜ running (now (flash .exit)) (now (spare .exit)) (now (disk .exit)) r ≡ runAll (s .sizes) (drain (s .sizes) (placesOf s) (device (now (flash .entry)) (now (spare .entry)) (now (disk .entry))) .stores) (running (now (flash .entry)) (now (spare .entry)) (now (disk .entry)) meter) ⌝ }
-    ensures { λ _. ⌜ Lent (s .sizes) (now (flash .exit)) (now (spare .exit)) (now (disk .exit)) ⌝ }
-{
-    let mut buffer = [0u8; 2048];
-    let z = s.sizes;
-    let size = z.p * z.s;
-    write_listed(meter, s, backs, &mut buffer[..size], flash, spare, disk)
-}
-
-fn write_large(
-    meter: Meter,
-    s: State,
-    backs: &[u16],
-    flash: &mut [u8],
-    spare: &mut [u8],
-    disk: &mut [u8],
-) -> Meter
-    requires { ⌜ Lent (s .sizes) (now flash) (now spare) (now disk) ⌝ }
-    requires { ⌜ Listed (placesOf s) (now spare) (now backs) ⌝ }
-    ensures { λ r. ⌜ running (now (flash .exit)) (now (spare .exit)) (now (disk .exit)) r ≡ runAll (s .sizes) (drain (s .sizes) (placesOf s) (device (now (flash .entry)) (now (spare .entry)) (now (disk .entry))) .stores) (running (now (flash .entry)) (now (spare .entry)) (now (disk .entry)) meter) ⌝ }
-    ensures { λ _. ⌜ Lent (s .sizes) (now (flash .exit)) (now (spare .exit)) (now (disk .exit)) ⌝ }
-{
-    let mut buffer = [0u8; 65536];
-    let z = s.sizes;
-    let size = z.p * z.s;
-    write_listed(meter, s, backs, &mut buffer[..size], flash, spare, disk)
-}
-
-// A bucket of at most 2,048 bytes is gathered in an array of that size: there is less to clear.
-fn write_drained(
-    meter: Meter,
-    s: State,
-    backs: &[u16],
-    flash: &mut [u8],
-    spare: &mut [u8],
-    disk: &mut [u8],
-) -> Meter
-    requires { ⌜ Lent (s .sizes) (now flash) (now spare) (now disk) ⌝ }
-    requires { ⌜ Listed (placesOf s) (now spare) (now backs) ⌝ }
-    ensures { λ r. ⌜ running (now (flash .exit)) (now (spare .exit)) (now (disk .exit)) r ≡ runAll (s .sizes) (drain (s .sizes) (placesOf s) (device (now (flash .entry)) (now (spare .entry)) (now (disk .entry))) .stores) (running (now (flash .entry)) (now (spare .entry)) (now (disk .entry)) meter) ⌝ }
-    ensures { λ _. ⌜ Lent (s .sizes) (now (flash .exit)) (now (spare .exit)) (now (disk .exit)) ⌝ }
-{
-    let z = s.sizes;
-    let size = z.p * z.s;
-    if size <= 2048 {
-        write_small(meter, s, backs, flash, spare, disk)
-    } else {
-        write_large(meter, s, backs, flash, spare, disk)
-    }
 }
 
 // All stores of the drain, and the state that it leaves. What to write is worked out before the first store.
@@ -143,7 +58,7 @@ pub fn drain_queues(
     let backs = work.backs;
     let count = work.count;
     let state = work.state;
-    let left = write_drained(meter, s, &backs[..count], flash, spare, disk);
+    let left = write_listed(meter, s, &backs[..count], flash, spare, disk);
     Turn { meter: left, state }
 }
 

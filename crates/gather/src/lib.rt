@@ -72,15 +72,6 @@ pub fn merged_range(
     }
 }
 
-// All its bytes.
-pub fn merged_into(s: State, b: u16, flash: &[u8], spare: &[u8], disk: &[u8], buffer: &mut [u8])
-    requires { ⌜ Sources (placesOf s) b (now flash) (now spare) (now disk) ⌝ }
-    requires { ⌜ length (now buffer) ≡ bucketSize (s .sizes) ⌝ }
-    ensures { λ _. ⌜ now (buffer .exit) ≡ merged (s .sizes) (placesOf s) (device (now (flash .entry)) (now (spare .entry)) (now (disk .entry))) b ⌝ }
-{
-    merged_range(s, b, 0, flash, spare, disk, buffer);
-}
-
 // The window shows the bytes of b on the disk, and then those of its read bucket, if it has one.
 fn lay_base(s: State, b: u16, flash: &[u8], window: &mut [u8])
     requires { ⌜ Limits (s .sizes) × (length (now flash) ≡ flashSize (s .sizes)) ⌝ }

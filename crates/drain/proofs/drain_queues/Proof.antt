@@ -18,13 +18,13 @@ array-share-prefix-backs c = let w = c .before .before .drained in
     let n : length (w .result .backs) ≡ 256 = search needs in
     omega (arith, w .ensures .1 .0)
 
-slice-aggregate-write-drained : tie.Need-slice-aggregate-write-drained
-slice-aggregate-write-drained c = let w = c .before .before .before .drained in
+slice-aggregate-write-listed : tie.Need-slice-aggregate-write-listed
+slice-aggregate-write-listed c = let w = c .before .before .before .drained in
     let n : length (w .result .backs) ≡ 256 = search needs in
     sym (length-take-le (w .result .count) (w .result .backs) (omega (arith, w .ensures .1 .0)))
 
-write-drained-requires : tie.Need-write-drained-requires
-write-drained-requires c κs = search needs
+write-listed-requires : tie.Need-write-listed-requires
+write-listed-requires c κs = search needs
 
 same-length : tie.Need-same-length
 same-length c = search needs
@@ -38,11 +38,13 @@ same-length-3 c = search needs
 returns : tie.Need-returns
 unfolding after
 returns c =
-    let drained = c .before .before .before .before .before .before .before .before .before .before .before .before .before .drained in
-    let a = c .before .before .before .before .before .before .before .before .before .before .before .before .before .before .before .before .before .before .args in
+    let start = c .before .before .before .before .before .before .before .before .before .before .before .before .before .before in
+    let a = start .args in
     let d = device (a .flash .now) (a .spare .now) (a .disk .now) in
-    let w = c .before .before .before .before .before .before .write-drained .ensures in
-    (rw (w .0, drained .ensures .0 ∙ same-drained (a .s .sizes) d (placesOf (a .s))), w .1)
+    let w = c .before .before .write-listed .ensures in (
+      rw (w .0, c .before .before .before .before .before .before .before .before .before .drained .ensures .0 ∙ same-drained (a .s .sizes) d (placesOf (a .s))),
+      record { flash-length = start .pre .0 .flash-length; spare-length = start .pre .0 .spare-length; disk-length = w .1 },
+    )
 
 pub drain-queues-spec : {M : Type 1} → statement M
 drain-queues-spec =
@@ -50,8 +52,8 @@ drain-queues-spec =
     (tie.spec
     drained-requires
     array-share-prefix-backs
-    slice-aggregate-write-drained
-    write-drained-requires
+    slice-aggregate-write-listed
+    write-listed-requires
     same-length
     same-length-2
     same-length-3

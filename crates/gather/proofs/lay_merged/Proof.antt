@@ -4,7 +4,6 @@ use Rattle.state.specs.View.{placesOf}
 use Rattle.geometry.specs.Geometry.{device}
 use Rattle.model.specs.Steps.{baseBytes, merged}
 use mathlib.Core.Path.{sym, _∙_}
-use native.Mathlib.Omega.{arith}
 use borrow.Author.Needs.{needs}
 use Rattle.gather.proofs.lay_merged.Statement.{statement}
 use Rattle.gather.proofs.lay_merged.Tie as tie
