@@ -13,7 +13,7 @@ ghost use Rattle.model.specs.State.{cacheOf};
 ghost use Rattle.model.specs.Steps.{baseBytes, merged};
 ghost use Rattle.model.proofs.Limits.{Limits};
 ghost use Rattle.geometry.specs.Geometry.{device};
-ghost use Rattle.merge.specs.Window.{Turns, Readable};
+ghost use Rattle.overlay.specs.Window.{Turns, Readable};
 ghost use Rattle.meter.specs.Run.{running, runAll};
 ghost use Rattle.queue.specs.View.{entriesOf};
 ghost use Rattle.state.specs.View.{placesOf};

@@ -1,5 +1,5 @@
 use Rattle.gather.proofs.Gathered.{base-size}
-use Rattle.merge.proofs.SameChip.{same-merge}
+use Rattle.overlay.proofs.SameChip.{same-merge}
 use Rattle.state.specs.View.{placesOf}
 use Rattle.geometry.specs.Geometry.{device}
 use Rattle.model.specs.Steps.{baseBytes, merged}
