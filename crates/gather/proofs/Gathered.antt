@@ -1,6 +1,6 @@
 -- Where the bytes of a back-end bucket are; base and merged bytes are as many as a bucket has.
 use Rattle.model.proofs.Limits.{on-chip}
-use Prim.Native.Nat.{ℕ, _<_}
+use Prim.Native.Nat.{ℕ, _*_, _<_}
 use mathlib.Core.Path.{_≡_, refl, sym, ap, _∙_}
 use mathlib.Core.Bool.{Bool, true, false}
 use mathlib.Core.List.{List, [], _∷_}
@@ -8,20 +8,22 @@ use native.Mathlib.Nat.{le-refl}
 use native.Mathlib.Omega.{arith}
 use lib.ListN.{length}
 use lib.Seq.{take-all}
-use Rattle.lists.specs.Lists.{if_then_else_, part}
+use borrow.Author.Tests.{lt-ltb}
+use Rattle.lists.specs.Lists.{if_then_else_, all, part}
 use Rattle.model.specs.declared.Sizes.{Sizes}
+use Rattle.model.specs.declared.Entry.{Entry}
 use Rattle.model.specs.Sizes.{Device, bucketSize, body}
 use Rattle.model.specs.Stores.{bucketBytes, diskBytes}
 use Rattle.model.specs.Image.{wellFormed, merge}
-use Rattle.model.specs.State.{State, holds, cacheOf, cachesOf}
+use Rattle.model.specs.State.{State, holds, cacheOf, cachesOf, isBelow}
 use Rattle.model.specs.Steps.{baseBytes, merged}
 use Rattle.model.specs.Recover.{mergeAll}
 use Rattle.model.proofs.Frames.{Lengths, length-bucket, length-disk}
 use Rattle.geometry.specs.Geometry.{device, Lent}
 use Rattle.geometry.proofs.Passed.{lengths-of}
-use Rattle.overlay.specs.Window.{Readable}
+use Rattle.overlay.specs.Window.{chip, Readable}
 use Rattle.overlay.proofs.Logs.{merged-length}
-use Rattle.overlay.proofs.SameChip.{same-merge}
+use Rattle.overlay.proofs.SameChip.{same-merge, same-merge-all}
 use Rattle.image.specs.Chip.{spareOnly}
 use Rattle.steps.specs.Ready.{Orderly}
 use Rattle.steps.proofs.Inside.{cache-inside}
@@ -89,3 +91,28 @@ merged-all z s d b = at (holds b (s .writes))
     at : (t : Bool) → (if t then merge z d (cacheOf b (s .writes)) (baseBytes z s d b) else baseBytes z s d b) ≡ mergeAll z d (if t then cacheOf b (s .writes) ∷ [] else []) (baseBytes z s d b)
     at true = refl
     at false = refl
+
+-- the listed Write bucket is one that may stand in queues
+pub logs-below : (n b : ℕ) (l : List Entry) → cacheOf b l < n → all (isBelow n) (cachesOf b l) ≡ true
+unfolding cachesOf all isBelow
+logs-below n b l h = at (holds b l)
+  where
+    at : (t : Bool) → all (isBelow n) (if t then cacheOf b l ∷ [] else []) ≡ true
+    at true = rw (lt-ltb (cacheOf b l) n h)
+    at false = refl
+
+-- the merged bytes by where the base lies
+module _ (z : Sizes) (s : State) (flash spare disk : List ℕ) (b : ℕ) {list : List ℕ} (logs : list ≡ cachesOf b (s .writes)) where
+  laid : mergeAll z (chip flash spare) list (baseBytes z s (device flash spare disk) b) ≡ merged z s (device flash spare disk) b
+  laid =
+      ap (λ (l : List ℕ). mergeAll z (chip flash spare) l (baseBytes z s (device flash spare disk) b)) logs
+      ∙ same-merge-all z (device flash spare disk) (cachesOf b (s .writes)) (baseBytes z s (device flash spare disk) b)
+      ∙ sym (merged-all z s (device flash spare disk) b)
+
+  pub over-read : {c : ℕ} → holds b (s .reads) ≡ true → c ≡ cacheOf b (s .reads) → mergeAll z (chip flash spare) list (part flash (c * bucketSize z) (bucketSize z)) ≡ merged z s (device flash spare disk) b
+  unfolding baseBytes bucketBytes
+  over-read h e = rw (e) (rw h at laid)
+
+  pub over-disk : holds b (s .reads) ≡ false → mergeAll z (chip flash spare) list (part disk (b * bucketSize z) (bucketSize z)) ≡ merged z s (device flash spare disk) b
+  unfolding baseBytes diskBytes
+  over-disk h = rw h at laid

@@ -1,19 +1,21 @@
 // The bytes of a back-end bucket: its Write bucket's complete logs over its read bucket, or over the disk if there is none.
 // A window is a lent buffer that comes to show a part of them; no other byte is copied.
 use meter::Meter;
+use model::Sizes;
 use state::State;
 ghost use mathlib.Core.Path.{_≡_};
+ghost use mathlib.Core.Bool.{true};
 ghost use mathlib.Core.List.{List};
 ghost use Prim.Native.Nat.{ℕ, _+_, _*_, _≤_, _<_};
-ghost use lib.ListN.{length};
-ghost use Rattle.lists.specs.Lists.{part};
-ghost use Rattle.model.specs.Sizes.{bucketSize, flashSize, diskSize, body};
+ghost use lib.ListN.{length, take};
+ghost use Rattle.lists.specs.Lists.{all, part};
+ghost use Rattle.model.specs.Sizes.{bucketSize, diskSize, body};
 ghost use Rattle.model.specs.Stores.{diskBytes, unitStores};
-ghost use Rattle.model.specs.State.{cacheOf};
-ghost use Rattle.model.specs.Steps.{baseBytes, merged};
-ghost use Rattle.model.proofs.Limits.{Limits};
+ghost use Rattle.model.specs.State.{cacheOf, cachesOf, isBelow};
+ghost use Rattle.model.specs.Steps.{merged};
+ghost use Rattle.model.specs.Recover.{mergeAll};
 ghost use Rattle.geometry.specs.Geometry.{device};
-ghost use Rattle.overlay.specs.Window.{Turns, Readable};
+ghost use Rattle.overlay.specs.Window.{Turns, Readable, chip};
 ghost use Rattle.meter.specs.Run.{running, runAll};
 ghost use Rattle.queue.specs.View.{entriesOf};
 ghost use Rattle.state.specs.View.{placesOf};
@@ -30,23 +32,44 @@ pub fn piece_range(area: &[u8], size: usize, index: usize, from: usize, window: 
     area::copy_over(window, &area[at..end]);
 }
 
-// The read bucket's bytes, or the disk's.
-fn base_range(s: State, b: u16, from: usize, flash: &[u8], disk: &[u8], window: &mut [u8])
-    requires { ⌜ Limits (s .sizes) ⌝ }
-    requires { ⌜ (length (now flash) ≡ flashSize (s .sizes)) × (length (now disk) ≡ diskSize (s .sizes)) ⌝ }
-    requires { ⌜ (cacheOf b (entriesOf (s .reads)) < s .sizes .c) × (b < s .sizes .b) ⌝ }
-    requires { ⌜ from + length (now window) ≤ bucketSize (s .sizes) ⌝ }
-    ensures { λ _. ⌜ ((spare : List ℕ) → now (window .exit) ≡ part (baseBytes (s .sizes) (placesOf s) (device (now (flash .entry)) spare (now (disk .entry))) b) from (length (now (window .entry)))) ⌝ }
+// The Write bucket of b, as a list of none or of one.
+pub struct Logs {
+    pub list: [u8; 1],
+    pub count: usize,
+}
+
+pub fn logs_of(s: State, b: u16) -> Logs
+    ensures { λ r. ⌜ (r .count ≤ 1) × (take (r .count) (r .list) ≡ cachesOf b (entriesOf (s .writes))) ⌝ }
 {
-    let z = s.sizes;
-    let size = z.p * z.s;
-    let copy = s.reads.find(b);
-    if copy.held {
-        let c = copy.cache as usize;
-        piece_range(flash, size, c, from, window);
-    } else {
-        piece_range(disk, size, b as usize, from, window);
+    let found = s.writes.find(b);
+    let list = [found.cache];
+    if found.held {
+        return Logs { list, count: 1 };
     }
+    Logs { list, count: 0 }
+}
+
+// The window shows, from an index on, the logs of the listed buckets over piece number `index` of an area of pieces of a bucket's size.
+fn lay_piece(
+    z: Sizes,
+    list: &[u8],
+    area: &[u8],
+    index: usize,
+    from: usize,
+    flash: &[u8],
+    spare: &[u8],
+    window: &mut [u8],
+)
+    requires { ⌜ Readable z (now flash) (now spare) ⌝ }
+    requires { ⌜ all (isBelow (body z)) (now list) ≡ true ⌝ }
+    requires { ⌜ index * bucketSize z + bucketSize z ≤ length (now area) ⌝ }
+    requires { ⌜ from + length (now window) ≤ bucketSize z ⌝ }
+    ensures { λ _. ⌜ now (window .exit) ≡ part (mergeAll z (chip (now (flash .entry)) (now (spare .entry))) (now (list .entry)) (part (now (area .entry)) (index * bucketSize z) (bucketSize z))) from (length (now (window .entry))) ⌝ }
+{
+    let size = z.p * z.s;
+    let at = index * size;
+    let end = at + size;
+    overlay::lay_out(z, list, from, flash, spare, &area[at..end], window);
 }
 
 // The window shows the bytes of the back-end bucket b from an index on. The state is looked at before the window is written: looked at later, it would be copied whole.
@@ -64,29 +87,19 @@ pub fn merged_range(
     ensures { λ _. ⌜ now (window .exit) ≡ part (merged (s .sizes) (placesOf s) (device (now (flash .entry)) (now (spare .entry)) (now (disk .entry))) b) from (length (now (window .entry))) ⌝ }
 {
     let z = s.sizes;
-    let logs = s.writes.find(b);
-    base_range(s, b, from, flash, disk, window);
-    if logs.held {
-        let c = logs.cache as usize;
-        merge::merge_range(z, c, from, flash, spare, window);
-    }
-}
-
-// The window shows the bytes of b on the disk, and then those of its read bucket, if it has one.
-fn lay_base(s: State, b: u16, flash: &[u8], window: &mut [u8])
-    requires { ⌜ Limits (s .sizes) × (length (now flash) ≡ flashSize (s .sizes)) ⌝ }
-    requires { ⌜ cacheOf b (entriesOf (s .reads)) < s .sizes .c ⌝ }
-    requires { ⌜ length (now window) ≤ bucketSize (s .sizes) ⌝ }
-    ensures { λ _. ⌜ ((spare disk : List ℕ) → Turns 0 (diskBytes (s .sizes) (device (now (flash .entry)) spare disk) b) (baseBytes (s .sizes) (placesOf s) (device (now (flash .entry)) spare disk) b) (now (window .entry)) (now (window .exit))) ⌝ }
-{
-    let z = s.sizes;
+    let logs = logs_of(s, b);
+    let list = logs.list;
+    let n = logs.count;
     let copy = s.reads.find(b);
     if copy.held {
-        piece_range(flash, z.p * z.s, copy.cache as usize, 0, window);
+        let c = copy.cache as usize;
+        lay_piece(z, &list[..n], flash, c, from, flash, spare, window);
+    } else {
+        lay_piece(z, &list[..n], disk, b as usize, from, flash, spare, window);
     }
 }
 
-// And then the merged ones.
+// The window shows the bytes of b on the disk, and then the merged ones.
 fn lay_merged(s: State, b: u16, flash: &[u8], spare: &[u8], window: &mut [u8])
     requires { ⌜ Readable (s .sizes) (now flash) (now spare) ⌝ }
     requires { ⌜ (cacheOf b (entriesOf (s .reads)) < body (s .sizes)) × (cacheOf b (entriesOf (s .writes)) < body (s .sizes)) ⌝ }
@@ -94,10 +107,15 @@ fn lay_merged(s: State, b: u16, flash: &[u8], spare: &[u8], window: &mut [u8])
     ensures { λ _. ⌜ ((disk : List ℕ) → Sources (placesOf s) b (now (flash .entry)) (now (spare .entry)) disk → Turns 0 (diskBytes (s .sizes) (device (now (flash .entry)) (now (spare .entry)) disk) b) (merged (s .sizes) (placesOf s) (device (now (flash .entry)) (now (spare .entry)) disk) b) (now (window .entry)) (now (window .exit))) ⌝ }
 {
     let z = s.sizes;
-    let logs = s.writes.find(b);
-    lay_base(s, b, flash, window);
-    if logs.held {
-        merge::merge_range(z, logs.cache as usize, 0, flash, spare, window);
+    let logs = logs_of(s, b);
+    let list = logs.list;
+    let n = logs.count;
+    let copy = s.reads.find(b);
+    if copy.held {
+        let c = copy.cache as usize;
+        lay_piece(z, &list[..n], flash, c, 0, flash, spare, window);
+    } else {
+        overlay::lay_over(z, &list[..n], 0, flash, spare, window);
     }
 }
 

@@ -24,7 +24,7 @@ use Rattle.geometry.proofs.Passed.{lengths-of}
 use Rattle.image.specs.Chip.{spareOnly}
 use Rattle.rules.proofs.SameSpare.{same-well-formed}
 use Rattle.overlay.specs.Window.{Readable, chip}
-use Rattle.overlay.proofs.SameChip.{same-merge}
+use Rattle.overlay.proofs.SameChip.{same-merge-all}
 use Rattle.classes.specs.Columns.{nowhere, inOrder, column}
 use Rattle.rescue.specs.Sources.{Recoverable}
 use Rattle.rescue.specs.Beside.{beside}
@@ -48,11 +48,6 @@ module _ (z : Sizes) (d : Device) where
   pub same-rescued : (b : ℕ) → isRescued z (spareOnly (d .spare)) b ≡ isRescued z d b
   unfolding isRescued unsaved isUnsavedOf isDroppedCopy keptCopies isRemaining isDirty flushed buckets isDroppedWrite keptWrites newest amongNewest isNewer isOnly isNoOther isWriteOf isWrite isChosen givesWay isCopyOf complete isCopy used epochOf backOf headTag tagOf
   same-rescued b = refl
-
-  same-merge-all : (l : List ℕ) (base : List ℕ) → mergeAll z (chip (d .flash) (d .spare)) l base ≡ mergeAll z d l base
-  unfolding mergeAll
-  same-merge-all [] base = refl
-  same-merge-all (w ∷ l) base = rw (same-merge z d w base) (same-merge-all l _)
 
 -- ---- the bytes
 

@@ -43,8 +43,7 @@ loop-again c =
     let start = c .before .before .before .before .before .before .before in
     let a = start .args in
     let l = c .before .before .before .before .before .loop in
-    let inside = page-spare (a .z) (a .log .bucket) (a .log .first + l .o) (start .pre .0 .bucket) (omega (arith, start .pre .0 .room, start .pre .1, c .before .before .before .before .loop-test .taken)) in
-    (
+    let inside = page-spare (a .z) (a .log .bucket) (a .log .first + l .o) (start .pre .0 .bucket) (omega (arith, start .pre .0 .room, start .pre .1, c .before .before .before .before .loop-test .taken)) in (
       omega (arith, c .before .before .before .before .loop-test .taken),
       omega (arith, c .before .spare .given, l .inv .1),
       rw (add-one (l .o), c .before .before .write-tag .ensures, l .inv .2) (tags-more (a .z) (a .log) (a .n) (a .spare .now) (l .o) (omega (arith, inside, start .pre .2))),
