@@ -1,9 +1,9 @@
 -- The whole pages of a log that an allowance lets be made are one splice into the chip's data bytes and one into its spare bytes.
 use Prim.Native.Nat.{ℕ, zero, suc, _+_, _-_, _*_, _≤_, _<_, min}
-use mathlib.Core.Path.{_≡_, sym}
+use mathlib.Core.Path.{_≡_}
 use mathlib.Core.Bool.{false, _||_, or-true, or-false}
 use mathlib.Core.List.{List, [], _∷_}
-use native.Mathlib.Nat.{add-mul, suc-mul, zero-mul, mul-le-mul-right, sub-zero}
+use native.Mathlib.Nat.{suc-mul, zero-mul, mul-le-mul-right, sub-zero}
 use native.Mathlib.Decide.{decLt}
 use native.Mathlib.Omega.{arith}
 use lib.ListN.{length, take, drop}

@@ -3,12 +3,11 @@ use Prim.Native.Nat.{ℕ, zero, suc, _+_, _*_, _≤_}
 use mathlib.Core.Path.{_≡_, refl}
 use mathlib.Core.List.{List}
 use native.Mathlib.Omega.{arith}
-use native.Mathlib.Nat.{add-mul, add-assoc}
 use lib.ListN.{length, length-append}
 use Rattle.lists.specs.Lists.{splice}
 use Rattle.lists.proofs.Splices.{splice-next}
 use Rattle.model.specs.declared.Sizes.{Sizes}
-use Rattle.model.specs.Sizes.{pageIndex, pagesFor}
+use Rattle.model.specs.Sizes.{pageIndex}
 use Rattle.model.specs.Spare.{tagBytes}
 use Rattle.log.specs.Logs.{pageTag, tags}
 use Rattle.log.specs.declared.Log.{Log}

@@ -10,7 +10,7 @@ use lib.ListN.{length, take, getD, replicate, length-replicate}
 use lib.Seq.{take-all}
 use lib.Dec.{leb, ltb, eqb}
 use borrow.Author.Tests.{eq-eqb, eqb-true, leb-true, leb-false, ltb-true, ltb-false, lt-ltb, le-ltb}
-use Rattle.lists.specs.Lists.{if_then_else_, all, any, member, splice, part}
+use Rattle.lists.specs.Lists.{if_then_else_, all, any, member, splice}
 use Rattle.lists.proofs.Tests.{true-or-false, and-left, and-right, and-true, or-second}
 use Rattle.lists.proofs.Parts.{getD-part, length-part-fits, getD-splice-in, getD-splice-before, getD-splice-after}
 use Rattle.lists.proofs.Arrays.{done-more, all-at}
@@ -29,7 +29,7 @@ use Rattle.image.specs.Chip.{spareOnly}
 use Rattle.overlay.specs.declared.Extent.{Extent}
 use Rattle.overlay.specs.declared.Run.{Run}
 use Rattle.overlay.specs.Window.{chip, Tagged, Readable, LogPlace, logPart}
-use Rattle.overlay.specs.Runs.{Inside, Lays, Runs}
+use Rattle.overlay.specs.Runs.{Lays, Runs}
 use Rattle.overlay.proofs.Logs.{in-flash, merged-length, log-place, log-laid, ends-last, log-lacking}
 
 -- ---- one page

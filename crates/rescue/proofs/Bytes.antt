@@ -2,7 +2,7 @@
 use Prim.Native.Nat.{ℕ, _*_, _<_}
 use mathlib.Core.Path.{_≡_, refl, sym, ap, _∙_}
 use mathlib.Core.Bool.{Bool, true, false}
-use mathlib.Core.List.{List, [], _∷_, List·Memᴰ}
+use mathlib.Core.List.{List, [], List·Memᴰ}
 use native.Mathlib.Omega.{arith}
 use lib.ListN.{length}
 use Rattle.lists.specs.Lists.{if_then_else_, head, empty, member, part}
@@ -28,7 +28,7 @@ use Rattle.overlay.proofs.SameChip.{same-merge-all}
 use Rattle.classes.specs.Columns.{nowhere, inOrder, column}
 use Rattle.rescue.specs.Sources.{Recoverable}
 use Rattle.rescue.specs.Beside.{beside}
-use Rattle.rescue.proofs.Standing.{head-in, logs-beside, copy-beside}
+use Rattle.rescue.proofs.Standing.{head-in, flushed-stands, logs-beside, copy-beside}
 
 -- ---- what the spare area alone says
 
@@ -78,34 +78,36 @@ module _ {z : Sizes} {flash spare : List ℕ} (readable : Readable z flash spare
       go true e = length-disk z d lengths b back
       go false e = length-bucket z d lengths (head (chosen z d b)) (on-chip z _ (chosen-in z d b (head (chosen z d b)) (head-in (chosen z d b) e) .1))
 
-  -- a window that shows the disk's bytes comes to show them
-  pub base-shown : {order copies : List ℕ} → order ≡ inOrder z o → copies ≡ column z o (isChosen z o) → (n : ℕ) (before after : List ℕ)
-      → after ≡ (if member b copies then part (part flash (head (beside b copies order) * bucketSize z) (bucketSize z)) 0 n else before)
-      → before ≡ part (diskBytes z d b) 0 n → after ≡ part (baseBytes z d b) 0 n
+  -- by the columns
+  pub base-stands : {order copies : List ℕ} → order ≡ inOrder z o → copies ≡ column z o (isChosen z o)
+      → (if member b copies then part flash (head (beside b copies order) * bucketSize z) (bucketSize z) else diskBytes z d b) ≡ baseBytes z d b
   unfolding bucketBytes
-  base-shown order-is copies-are n before after laid shows =
-      laid ∙ rw (order-is, copies-are) (copy-beside z o b low formed (λ c. part (bucketBytes z d c) 0 n) before
-      ∙ rw (same-chosen z d b, shows) (go (empty (chosen z d b))))
-    where
-      go : (t : Bool) → (if t then part (diskBytes z d b) 0 n else part (bucketBytes z d (head (chosen z d b))) 0 n) ≡ part (if t then diskBytes z d b else bucketBytes z d (head (chosen z d b))) 0 n
-      go true = refl
-      go false = refl
+  base-stands order-is copies-are = rw (order-is, copies-are) (copy-beside z o b low formed (bucketBytes z d) (diskBytes z d b) ∙ rw (same-chosen z d b))
+
+  no-logs : mergeAll z (chip flash spare) [] (baseBytes z d b) ≡ baseBytes z d b
+  unfolding mergeAll
+  no-logs = refl
 
   rescued-merged : flushed z o b ≡ true → mergeAll z (chip flash spare) (byEpoch z o (buckets z o (isWriteOf z o b))) (baseBytes z d b) ≡ rescued z d b
   unfolding rescued recovered
   rescued-merged h = rw (same-logs z d b, sym (same-flushed z d b) ∙ h) (same-merge-all z d _ _)
 
-  pub rescued-laid : {order writes : List ℕ} → order ≡ inOrder z o → writes ≡ column z o (isWrite z o) → flushed z o b ≡ true
-      → mergeAll z (chip flash spare) (beside b writes order) (baseBytes z d b) ≡ rescued z d b
-  rescued-laid order-is writes-are h = rw (order-is, writes-are, logs-beside z o b low) (rescued-merged h)
-
   -- without logs, b has lost its copy
-  pub rescued-own : flushed z o b ≡ false → isRescued z o b ≡ true → baseBytes z d b ≡ rescued z d b
+  rescued-own : flushed z o b ≡ false → isRescued z o b ≡ true → baseBytes z d b ≡ rescued z d b
   unfolding rescued isRescued
   rescued-own h lost =
       let w = unsaved-by z o b (or-right (flushed z o b) (unsaved z o b) lost h) in
       let some = head-chosen z o formed b (w .0) (w .1) (dropped-copy z o (w .0) (w .2) .0) (w .4) .0 in
       rw (sym (ap empty (same-chosen z d b)) ∙ some, sym (same-flushed z d b) ∙ h)
+
+  -- the logs of a flushed back-end bucket lie over what it has, and no logs over that of another
+  pub rescued-laid : {order writes dropped : List ℕ} → order ≡ inOrder z o → writes ≡ column z o (isWrite z o) → dropped ≡ column z o (isDroppedWrite z o) → isRescued z o b ≡ true
+      → mergeAll z (chip flash spare) (if member b dropped then beside b writes order else []) (baseBytes z d b) ≡ rescued z d b
+  rescued-laid order-is writes-are dropped-are lost = rw (order-is, writes-are, dropped-are, flushed-stands z o b low, logs-beside z o b low) (go (flushed z o b) refl)
+    where
+      go : (t : Bool) → flushed z o b ≡ t → mergeAll z (chip flash spare) (if t then byEpoch z o (buckets z o (isWriteOf z o b)) else []) (baseBytes z d b) ≡ rescued z d b
+      go true h = rescued-merged h
+      go false h = no-logs ∙ rescued-own h lost
 
   pub rescued-size : isRescued z o b ≡ true → length (rescued z d b) ≡ bucketSize z
   unfolding byEpoch

@@ -1,27 +1,20 @@
 -- A column searched for a number, and the buckets that the number stands beside.
 use Prim.Native.Nat.{ℕ, zero, suc, _+_, _-_, _≤_, _<_}
-use mathlib.Core.Path.{_≡_, refl, ap, _∙_}
+use mathlib.Core.Path.{_≡_, refl, sym, ap, _∙_}
 use mathlib.Core.Bool.{Bool, true, false, _||_, true≢false}
-use mathlib.Core.List.{List, [], _∷_}
-use native.Mathlib.Nat.{le-refl}
+use mathlib.Core.List.{List, [], _∷_, _++_, append-assoc, append-nil}
 use native.Mathlib.Numerals.{add-one}
 use native.Mathlib.Omega.{arith}
 use native.Mathlib.Decide.{decLt}
 use lib.Dec.{eqb}
 use lib.ListN.{length, drop, getD, drop-of-length-le}
 use lib.Seq.{drop-cons}
-use borrow.Author.Tests.{ltb-true, eq-eqb}
+use borrow.Author.Tests.{eq-eqb}
 use Rattle.lists.specs.Lists.{if_then_else_, all, any, head, member, part}
-use Rattle.lists.proofs.Arrays.{all-at}
+use Rattle.lists.proofs.Tests.{and-left, and-right, and-true}
 use Rattle.lists.proofs.Members.{member-step, member-end}
 use Rattle.lists.proofs.Parts.{getD-part, length-part-fits}
-use Rattle.model.specs.declared.Sizes.{Sizes}
-use Rattle.model.specs.Sizes.{Device, bucketSize, body}
-use Rattle.model.specs.Image.{merge}
 use Rattle.model.specs.State.{isBelow}
-use Rattle.model.specs.Recover.{mergeAll}
-use Rattle.overlay.specs.Window.{Readable, chip}
-use Rattle.overlay.proofs.Logs.{merged-length}
 use Rattle.rescue.specs.Beside.{beside, Passed}
 
 -- ---- places passed
@@ -104,32 +97,34 @@ module _ (x : ℕ) (column order : List ℕ) (same : length column ≡ length or
   pub found-none : length column ≤ r → member x column ≡ false
   found-none h = member-passed x column order same passed ∙ member-end column r x h
 
--- a bucket of the order is one that may stand in queues
-pub listed : (n : ℕ) (order : List ℕ) → all (isBelow n) order ≡ true → (i : ℕ) → i < length order → getD order i 0 < n
-unfolding isBelow
-listed n order h i k = ltb-true (getD order i 0) n (all-at (isBelow n) order h i 0 k)
+-- ---- buckets listed
 
--- ---- logs laid
+module _ (x : ℕ) (column order : List ℕ) (same : length column ≡ length order) where
+  -- all that x stands beside is listed, or follows from a place on; the next place where x stands
+  pub listed-passed : (front : List ℕ) {i r : ℕ} → Passed x column i r → front ++ beside x (drop i column) (drop i order) ≡ front ++ beside x (drop r column) (drop r order)
+  listed-passed front p = ap (λ (l : List ℕ). front ++ l) (beside-passed x column order same p)
 
-merge-first : (z : Sizes) (d : Device) (w : ℕ) (l base : List ℕ) → mergeAll z d (w ∷ l) base ≡ mergeAll z d l (merge z d w base)
-unfolding mergeAll
-merge-first z d w l base = refl
+  pub listed-next : (front : List ℕ) (i : ℕ) → i < length column → x ≡ getD column i 0
+      → front ++ beside x (drop i column) (drop i order) ≡ (front ++ (getD order i 0 ∷ [])) ++ beside x (drop (i + 1) column) (drop (i + 1) order)
+  listed-next front i h e =
+      rw (beside-step x column order i h (omega arith), eq-eqb x (getD column i 0) e)
+      (sym (append-assoc front (getD order i 0 ∷ []) (beside x (drop (i + 1) column) (drop (i + 1) order))))
 
-module _ (z : Sizes) (d : Device) (b : ℕ) (writes order : List ℕ) (same : length writes ≡ length order) where
-  pub laid-passed : {i r : ℕ} (laid : List ℕ) → Passed b writes i r
-      → mergeAll z d (beside b (drop i writes) (drop i order)) laid ≡ mergeAll z d (beside b (drop r writes) (drop r order)) laid
-  laid-passed laid p = ap (λ (l : List ℕ). mergeAll z d l laid) (beside-passed b writes order same p)
+  pub listed-last : (front : List ℕ) (i : ℕ) → length column ≤ i → front ++ beside x (drop i column) (drop i order) ≡ front
+  listed-last front i h = rw (beside-end x column order i h, append-nil)
 
-  -- the logs of the bucket at place i, where b stands
-  pub laid-next : (i : ℕ) (laid : List ℕ) → i < length writes → b ≡ getD writes i 0
-      → mergeAll z d (beside b (drop i writes) (drop i order)) laid ≡ mergeAll z d (beside b (drop (i + 1) writes) (drop (i + 1) order)) (merge z d (getD order i 0) laid)
-  laid-next i laid h e = rw (beside-step b writes order i h (omega arith), eq-eqb b (getD writes i 0) e) (merge-first z d (getD order i 0) (beside b (drop (i + 1) writes) (drop (i + 1) order)) laid)
+-- they are buckets of the order
+beside-below : (x n : ℕ) (column order : List ℕ) → all (isBelow n) order ≡ true → all (isBelow n) (beside x column order) ≡ true
+unfolding beside all
+beside-below x n [] order h = refl
+beside-below x n (y ∷ column) [] h = refl
+beside-below x n (y ∷ column) (c ∷ order) h = go (eqb x y) (beside-below x n column order (and-right (isBelow n c) (all (isBelow n) order) h))
+  where
+    go : (t : Bool) → all (isBelow n) (beside x column order) ≡ true → all (isBelow n) (if t then c ∷ beside x column order else beside x column order) ≡ true
+    go true r = and-true (and-left (isBelow n c) (all (isBelow n) order) h) r
+    go false r = r
 
-  pub laid-last : (i : ℕ) (laid : List ℕ) → length writes ≤ i → mergeAll z d (beside b (drop i writes) (drop i order)) laid ≡ laid
-  unfolding mergeAll
-  laid-last i laid h = rw (beside-end b writes order i h)
-
-pub laid-size : {z : Sizes} {flash spare : List ℕ} → Readable z flash spare → {c : ℕ} → c < body z → (laid : List ℕ) → length laid ≡ bucketSize z
-    → length (merge z (chip flash spare) c laid) ≡ bucketSize z
-unfolding merge
-laid-size {z} readable inside laid e = merged-length readable inside laid e (z .p) (le-refl (z .p))
+pub logs-below : (x n : ℕ) (column order : List ℕ) (t : Bool) → all (isBelow n) order ≡ true → all (isBelow n) (if t then beside x column order else []) ≡ true
+unfolding all
+logs-below x n column order true h = beside-below x n column order h
+logs-below x n column order false h = refl

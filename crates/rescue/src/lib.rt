@@ -4,16 +4,15 @@ use meter::Meter;
 use model::Sizes;
 ghost use mathlib.Core.Path.{_≡_};
 ghost use mathlib.Core.Bool.{true};
-ghost use mathlib.Core.List.{List};
+ghost use mathlib.Core.List.{List, []};
 ghost use Prim.Native.Nat.{ℕ, _*_, _≤_, _<_};
 ghost use lib.ListN.{length, take, getD};
 ghost use Rattle.lists.specs.Lists.{if_then_else_, all, head, member, part};
-ghost use Rattle.model.specs.Sizes.{bucketSize, flashSize, diskSize, body};
+ghost use Rattle.model.specs.Sizes.{bucketSize, diskSize, body};
 ghost use Rattle.model.specs.Stores.{diskBytes};
 ghost use Rattle.model.specs.Image.{isDirty};
 ghost use Rattle.model.specs.State.{isBelow};
 ghost use Rattle.model.specs.Recover.{isDroppedWrite, isDroppedCopy, mergeAll, isRescued, rescued, rescueStores, recover};
-ghost use Rattle.model.proofs.Limits.{Limits};
 ghost use Rattle.geometry.specs.Geometry.{device, Lent};
 ghost use Rattle.image.specs.Chip.{Chip, spareOnly};
 ghost use Rattle.overlay.specs.Window.{Turns, Readable, chip};
@@ -69,39 +68,58 @@ fn next_index(x: u16, column: &[u16], from: usize) -> usize
     at
 }
 
-// The window comes to show the copy of b, if b has one.
-fn lay_copy(z: Sizes, b: u16, order: &[u8], copies: &[u16], flash: &[u8], window: &mut [u8])
-    requires { ⌜ Limits z × (length (now flash) ≡ flashSize z) ⌝ }
-    requires { ⌜ (length (now copies) ≡ length (now order)) × (all (isBelow (body z)) (now order) ≡ true) ⌝ }
-    requires { ⌜ length (now window) ≤ bucketSize z ⌝ }
-    ensures { λ _. ⌜ now (window .exit) ≡ (if member b (now (copies .entry)) then part (part (now (flash .entry)) (head (beside b (now (copies .entry)) (now (order .entry))) * bucketSize z) (bucketSize z)) 0 (length (now (window .entry))) else now (window .entry)) ⌝ }
+// The Write buckets of b, in the order, as the first places of a lent list; how many they are.
+fn list_writes(b: u16, order: &[u8], writes: &[u16], list: &mut [u8]) -> usize
+    requires { ⌜ length (now writes) ≡ length (now order) ⌝ }
+    requires { ⌜ length (now order) ≤ length (now list) ⌝ }
+    ensures { λ r. ⌜ (r ≤ length (now (list .entry))) × (take r (now (list .exit)) ≡ beside b (now (writes .entry)) (now (order .entry))) ⌝ }
 {
-    let at = next_index(b, copies, 0);
-    if at < copies.len() {
-        let c = order[at] as usize;
-        gather::piece_range(flash, z.p * z.s, c, 0, window);
+    let mut count = 0;
+    let mut at = next_index(b, writes, 0);
+    while at < writes.len() {
+        list[count] = order[at];
+        count += 1;
+        at = next_index(b, writes, at + 1);
     }
+    count
 }
 
-// Lays the logs of all its Write buckets, in the order.
+// The Write buckets whose logs lie over the bytes of b: without a dropped one there are none.
+fn list_logs(b: u16, order: &[u8], writes: &[u16], dropped_writes: &[u16], list: &mut [u8]) -> usize
+    requires { ⌜ length (now writes) ≡ length (now order) ⌝ }
+    requires { ⌜ length (now order) ≤ length (now list) ⌝ }
+    ensures { λ r. ⌜ (r ≤ length (now (list .entry))) × (take r (now (list .exit)) ≡ (if member b (now («dropped_writes» .entry)) then beside b (now (writes .entry)) (now (order .entry)) else [])) ⌝ }
+{
+    if occurs(b, dropped_writes) {
+        return list_writes(b, order, writes, list);
+    }
+    0
+}
+
+// The logs of the listed buckets lie over the copy of b, if b has one, else over the bytes that the window shows.
 fn lay_logs(
     z: Sizes,
     b: u16,
+    list: &[u8],
     order: &[u8],
-    writes: &[u16],
+    copies: &[u16],
     flash: &[u8],
     spare: &[u8],
     window: &mut [u8],
 )
     requires { ⌜ Readable z (now flash) (now spare) ⌝ }
-    requires { ⌜ (length (now writes) ≡ length (now order)) × (all (isBelow (body z)) (now order) ≡ true) ⌝ }
+    requires { ⌜ (length (now copies) ≡ length (now order)) × (all (isBelow (body z)) (now order) ≡ true) × (all (isBelow (body z)) (now list) ≡ true) ⌝ }
     requires { ⌜ length (now window) ≤ bucketSize z ⌝ }
-    ensures { λ _. ⌜ ((base : List ℕ) → length base ≡ bucketSize z → Turns 0 base (mergeAll z (chip (now (flash .entry)) (now (spare .entry))) (beside b (now (writes .entry)) (now (order .entry))) base) (now (window .entry)) (now (window .exit))) ⌝ }
+    ensures { λ _. ⌜ ((base : List ℕ) → length base ≡ bucketSize z → Turns 0 base (mergeAll z (chip (now (flash .entry)) (now (spare .entry))) (now (list .entry)) (if member b (now (copies .entry)) then part (now (flash .entry)) (head (beside b (now (copies .entry)) (now (order .entry))) * bucketSize z) (bucketSize z) else base)) (now (window .entry)) (now (window .exit))) ⌝ }
 {
-    let mut at = next_index(b, writes, 0);
-    while at < writes.len() {
-        merge::merge_range(z, order[at] as usize, 0, flash, spare, window);
-        at = next_index(b, writes, at + 1);
+    let place = next_index(b, copies, 0);
+    if place < copies.len() {
+        let size = z.p * z.s;
+        let at = order[place] as usize * size;
+        let end = at + size;
+        overlay::lay_out(z, list, 0, flash, spare, &flash[at..end], window);
+    } else {
+        overlay::lay_over(z, list, 0, flash, spare, window);
     }
 }
 
@@ -123,10 +141,9 @@ fn lay_rescued(
     requires { ⌜ length (now window) ≤ bucketSize z ⌝ }
     ensures { λ _. ⌜ ((disk : List ℕ) → length disk ≡ diskSize z → Turns 0 (diskBytes z (device (now (flash .entry)) (now (spare .entry)) disk) b) (rescued z (device (now (flash .entry)) (now (spare .entry)) disk) b) (now (window .entry)) (now (window .exit))) ⌝ }
 {
-    lay_copy(z, b, order, copies, flash, window);
-    if occurs(b, dropped_writes) {
-        lay_logs(z, b, order, writes, flash, spare, window);
-    }
+    let mut list = [0u8; 256];
+    let count = list_logs(b, order, writes, dropped_writes, &mut list);
+    lay_logs(z, b, &list[..count], order, copies, flash, spare, window);
 }
 
 // The units of b, laid in their place on the disk: as many as the allowance lets be made.

@@ -8,12 +8,11 @@ use Rattle.model.proofs.Frames.{length-disk}
 use Rattle.model.proofs.Limits.{on-chip}
 use Rattle.model.specs.Stores.{diskBytes}
 use Rattle.model.specs.Sizes.{bucketSize, body}
-use Rattle.lists.specs.Lists.{part}
 use lib.ListN.{length}
 use lib.Seq.{length-take-le}
 use native.Mathlib.Omega.{arith}
-use mathlib.Core.Path.{_≡_, sym, ap, _∙_}
-use Prim.Native.Nat.{_<_, _*_}
+use mathlib.Core.Path.{_≡_, sym, _∙_}
+use Prim.Native.Nat.{_<_}
 use borrow.Author.Needs.{needs}
 use Rattle.gather.proofs.lay_merged.Statement.{statement}
 use Rattle.gather.proofs.lay_merged.Tie as tie

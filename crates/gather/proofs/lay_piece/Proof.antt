@@ -1,10 +1,8 @@
 use Rattle.geometry.proofs.Passed.{products}
 use Rattle.model.specs.Sizes.{bucketSize}
 use Rattle.lists.proofs.Lent.{lent-part, lent-length}
-use lib.ListN.{length}
 use native.Mathlib.Omega.{arith}
-use mathlib.Core.Path.{sym, ap, _∙_}
-use Prim.Native.Nat.{_+_, _*_}
+use Prim.Native.Nat.{_*_}
 use borrow.Author.Needs.{needs}
 use Rattle.gather.proofs.lay_piece.Statement.{statement}
 use Rattle.gather.proofs.lay_piece.Tie as tie

@@ -4,12 +4,11 @@ use Rattle.queue.specs.View.{entriesOf}
 use Rattle.geometry.proofs.Places.{nth-inside, bucket-data}
 use Rattle.model.proofs.Limits.{on-chip}
 use Rattle.model.specs.Sizes.{bucketSize, diskSize, body}
-use Rattle.lists.specs.Lists.{part}
 use lib.ListN.{length}
 use lib.Seq.{length-take-le}
 use native.Mathlib.Omega.{arith}
-use mathlib.Core.Path.{_≡_, sym, ap, _∙_}
-use Prim.Native.Nat.{_<_, _*_}
+use mathlib.Core.Path.{_≡_, sym, _∙_}
+use Prim.Native.Nat.{_<_}
 use borrow.Author.Needs.{needs}
 use Rattle.gather.proofs.merged_range.Statement.{statement}
 use Rattle.gather.proofs.merged_range.Tie as tie

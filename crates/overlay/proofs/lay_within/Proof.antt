@@ -4,13 +4,13 @@ use Rattle.overlay.specs.Window.{chip}
 use Rattle.geometry.proofs.Places.{nth-inside}
 use Rattle.geometry.proofs.Passed.{products}
 use Rattle.model.specs.Recover.{mergeAll}
-use Rattle.model.specs.Sizes.{bucketSize, flashSize}
+use Rattle.model.specs.Sizes.{bucketSize}
 use Rattle.lists.proofs.Splices.{splice-none}
 use Rattle.lists.specs.Lists.{part, splice}
-use lib.ListN.{length, take}
+use lib.ListN.{length}
 use native.Mathlib.Omega.{arith}
-use mathlib.Core.Path.{_≡_, refl, sym, ap, _∙_}
-use Prim.Native.Nat.{_+_, _-_, _*_, _≤_, _<_}
+use mathlib.Core.Path.{_≡_, refl, sym}
+use Prim.Native.Nat.{_-_, _*_, _≤_}
 use Rattle.overlay.proofs.lay_within.Statement.{statement}
 use Rattle.overlay.proofs.lay_within.Tie as tie
 

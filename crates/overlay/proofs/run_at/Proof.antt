@@ -3,7 +3,7 @@ use Rattle.model.specs.Sizes.{body}
 use lib.ListN.{length}
 use native.Mathlib.Omega.{arith}
 use native.Mathlib.Nat.{le-refl}
-use mathlib.Core.Path.{_≡_, refl, sym, ap, _∙_}
+use mathlib.Core.Path.{_≡_}
 use Prim.Native.Nat.{_+_, _-_, _≤_, _<_}
 use Rattle.overlay.proofs.run_at.Statement.{statement}
 use Rattle.overlay.proofs.run_at.Tie as tie

@@ -1,6 +1,5 @@
 use borrow.Author.Tests.{lt-ltb, le-ltb}
 use native.Mathlib.Omega.{arith}
-use mathlib.Core.Path.{refl}
 use borrow.Author.Needs.{needs}
 use Rattle.overlay.proofs.shortened.Statement.{statement}
 use Rattle.overlay.proofs.shortened.Tie as tie

@@ -1,118 +1,101 @@
-use Prim.Native.Nat.{ℕ, _≤_, _<_, _-_}
-use mathlib.Core.Path.{_≡_, refl, sym, ap, _∙_}
-use mathlib.Core.List.{List}
-use native.Mathlib.Omega.{arith}
-use lib.ListN.{length, drop, getD}
-use borrow.Author.Needs.{needs}
-use Rattle.lists.specs.Lists.{part}
+use Rattle.rescue.proofs.Places.{found-member, found-first, found-none}
+use Rattle.overlay.proofs.Found.{listed}
+use Rattle.geometry.proofs.Places.{bucket-data}
+use Rattle.geometry.proofs.Passed.{products}
+use Rattle.model.proofs.Limits.{on-chip}
 use Rattle.model.specs.Sizes.{bucketSize, body}
-use Rattle.model.specs.Image.{merge}
-use Rattle.model.specs.Recover.{mergeAll}
-use Rattle.overlay.specs.Window.{chip}
-use Rattle.rescue.specs.Beside.{beside}
-use Rattle.rescue.proofs.Places.{listed, laid-passed, laid-next, laid-last, laid-size}
+use Rattle.lists.proofs.Lent.{lent-part, lent-length}
+use lib.ListN.{length, getD}
+use native.Mathlib.Omega.{arith}
+use Prim.Native.Nat.{_+_, _*_, _≤_, _<_}
+use borrow.Author.Needs.{needs}
 use Rattle.rescue.proofs.lay_logs.Statement.{statement}
 use Rattle.rescue.proofs.lay_logs.Tie as tie
 
--- b stands there, and the window shows what was laid up to there
-abbrev Inv-loop : tie.InvT-loop
-Inv-loop z b order writes flash spare window₀ at₀ window at =
-    (at ≤ length writes) × (length window ≡ length window₀) × (at < length writes → b ≡ getD writes at 0)
-    × ((base : List ℕ) → length base ≡ bucketSize z → window₀ ≡ part base 0 (length window₀)
-    → (laid : List ℕ) × (length laid ≡ bucketSize z) × (window ≡ part laid 0 (length window₀))
-    × (mergeAll z (chip flash spare) (beside b (drop at writes) (drop at order)) laid ≡ mergeAll z (chip flash spare) (beside b writes order) base))
+-- the copy lies on the chip
+copy-inside : (c : tie.After-next-index) → c .next-index .result < length (c .before .before .before .before .before .before .before .args .copies .now)
+    → getD (c .before .before .before .before .before .before .before .args .order .now) (c .next-index .result) 0 * (c .before .before .before .before .before .before .before .args .z .p * c .before .before .before .before .before .before .before .args .z .s)
+    + c .before .before .before .before .before .before .before .args .z .p * c .before .before .before .before .before .before .before .args .z .s
+    ≤ length (c .before .before .before .before .before .before .before .args .flash .now)
+copy-inside c here =
+    let start = c .before .before .before .before .before .before .before in
+    let x = start .args in
+    let copy = listed (body (x .z)) (x .order .now) (start .pre .1 .0 .1) (c .next-index .result) (omega (arith, here, start .pre .1 .0 .0)) in
+    omega (arith, bucket-data (x .z) (getD (x .order .now) (c .next-index .result) 0) (on-chip (x .z) _ copy), start .pre .0 .flash-length)
 
-abbrev μ-loop : tie.MeasureT-loop
-μ-loop z b order writes flash spare window₀ at₀ window at = length writes - at
-
-next-index-requires : tie.Need-next-index-requires Inv-loop μ-loop
+next-index-requires : tie.Need-next-index-requires
 next-index-requires c κs = search needs
 
-loop-holds : tie.Need-loop-holds Inv-loop μ-loop
-loop-holds c =
-    let start = c .before .before .before .before .before .before in
-    let x = start .args in
-    let found = c .next-index .ensures in (
-      found .0 .high,
-      refl,
-      found .1,
-      λ base e shows. (base, e, shows, sym (laid-passed (x .z) (chip (x .flash .now) (x .spare .now)) (x .b) (x .writes .now) (x .order .now) (start .pre .1 .0 .0) base (found .0))),
-    )
+mul-size : tie.Need-mul-size
+mul-size c = omega (arith, products (c .before .before .before .before .before .before .before .before .before .pre .0 .limits) .bucket)
 
-shared-slice-read-merge-range : tie.Need-shared-slice-read-merge-range Inv-loop μ-loop
-shared-slice-read-merge-range c =
-    let start = c .before .before .before .before .before .before .before .before .before in
-    omega (arith, c .before .loop-test .taken, start .pre .1 .0 .0)
+shared-slice-read-at : tie.Need-shared-slice-read-at
+shared-slice-read-at c = search needs
 
-cast-merge-range : tie.Need-cast-merge-range Inv-loop μ-loop
-cast-merge-range c = omega (arith, c .shared-slice-known5 .given (c .before .before .loop .at))
+cast-at : tie.Need-cast-at
+cast-at c = omega (arith, c .shared-slice-known6 .given (c .before .before .before .next-index .result))
 
-merge-range-requires : tie.Need-merge-range-requires Inv-loop μ-loop
-merge-range-requires c κs =
-    let start = c .before .before .before .before .before .before .before .before .before .before in
-    let x = start .args in
-    let l = c .before .before .before .loop in
-    let here : l .at < length (x .order .now) = omega (arith, c .before .before .loop-test .taken, start .pre .1 .0 .0) in
-    (start .pre .0, (listed (body (x .z)) (x .order .now) (start .pre .1 .0 .1) (l .at) here, omega (arith, l .inv .1, start .pre .1 .1)))
+mul-at : tie.Need-mul-at
+mul-at c = omega (arith, copy-inside (c .before .before .before) (c .before .before .if1 .taken))
 
-add-next-index : tie.Need-add-next-index Inv-loop μ-loop
-add-next-index c = omega (arith, c .before .before .before .before .before .loop-test .taken)
+add-end : tie.Need-add-end
+add-end c = omega (arith, copy-inside (c .before .before .before) (c .before .before .if1 .taken))
 
-next-index-requires-2 : tie.Need-next-index-requires-2 Inv-loop μ-loop
-next-index-requires-2 c κs = omega (arith, c .before .before .before .before .before .loop-test .taken)
+sub-lay-out : tie.Need-sub-lay-out
+sub-lay-out c = search needs
 
-loop-less : tie.Need-loop-less Inv-loop μ-loop
-loop-less c = omega (arith, c .next-index2 .ensures .0 .low, c .before .before .before .before .before .before .loop-test .taken)
+part-lay-out-start : tie.Need-part-lay-out-start
+part-lay-out-start c = search needs
 
-loop-again : tie.Need-loop-again Inv-loop μ-loop
-loop-again c =
-    let start = c .before .before .before .before .before .before .before .before .before .before .before .before .before .before in
-    let x = start .args in
-    let l = c .before .before .before .before .before .before .before .loop in
-    let d = chip (x .flash .now) (x .spare .now) in
-    let found = c .next-index2 .ensures in
-    let here : l .at < length (x .writes .now) = c .before .before .before .before .before .before .loop-test .taken in
-    let inside = listed (body (x .z)) (x .order .now) (start .pre .1 .0 .1) (l .at) (omega (arith, here, start .pre .1 .0 .0)) in (
-      found .0 .high,
-      omega (arith, c .before .before .window .given, l .inv .1),
-      found .1,
-      λ base e shows.
-          let w = l .inv .3 base e shows in
-          let laid = merge (x .z) d (getD (x .order .now) (l .at) 0) (w .0) in (
-            laid,
-            laid-size (start .pre .0) inside (w .0) (w .1),
-            rw (l .inv .1) at (c .before .before .before .merge-range .ensures (w .0) (w .1) (rw (l .inv .1) (w .2))),
-            sym (laid-passed (x .z) d (x .b) (x .writes .now) (x .order .now) (start .pre .1 .0 .0) laid (found .0))
-                ∙ sym (laid-next (x .z) d (x .b) (x .writes .now) (x .order .now) (start .pre .1 .0 .0) (l .at) (w .0) here (l .inv .2 here)) ∙ w .3,
-          ),
-    )
+part-lay-out-end : tie.Need-part-lay-out-end
+part-lay-out-end c = omega (arith, copy-inside (c .before .before .before) (c .before .before .if1 .taken))
 
-same-length : tie.Need-same-length Inv-loop μ-loop
+lay-out-requires : tie.Need-lay-out-requires
+unfolding bucketSize
+lay-out-requires c κs = let start = c .before .before .before .before .before .before .before .before .before .before .before .before in let x = start .args in let p = start .pre in
+    let size = x .z .p * x .z .s in
+    let at = getD (x .order .now) (c .before .before .before .before .before .next-index .result) 0 * size in
+    (p .0, (p .1 .0 .2, (lent-length (x .flash .now) at size (copy-inside (c .before .before .before .before .before) (c .before .before .before .before .if1 .taken)), omega (arith, p .1 .1))))
+
+lay-over-requires : tie.Need-lay-over-requires
+lay-over-requires c κs = let p = c .before .before .before .before .before .before .before .before .before .pre in (p .0, (p .1 .0 .2, omega (arith, p .1 .1)))
+
+same-length : tie.Need-same-length
 same-length c = search needs
 
-returns : tie.Need-returns Inv-loop μ-loop
-returns c = λ base e shows.
-    let start = c .before .before .before .before .before .before .before .before in
-    let x = start .args in
-    let l = c .before .loop in
-    let w = l .inv .3 base e shows in
-    let d = chip (x .flash .now) (x .spare .now) in
-    w .2 ∙ ap (λ (bytes : List ℕ). part bytes 0 (length (x .window .now))) (sym (laid-last (x .z) d (x .b) (x .writes .now) (x .order .now) (start .pre .1 .0 .0) (l .at) (w .0) (omega arith)) ∙ w .3)
+returns : tie.Need-returns
+unfolding bucketSize
+returns c = let start = c .before .before .before .before .before .before .before .before .before .before .before .before .before .before .before in let x = start .args in let found = c .before .before .before .before .before .before .before .before .next-index .ensures in let here = c .before .before .before .before .before .before .before .if1 .taken in
+    let size = x .z .p * x .z .s in
+    λ base sized shows.
+    rw (
+      found-member (x .b) (x .copies .now) (x .order .now) (start .pre .1 .0 .0) (found .0) here (found .1 here),
+      found-first (x .b) (x .copies .now) (x .order .now) (start .pre .1 .0 .0) (found .0) here (found .1 here),
+    ) (rw (lent-part (x .flash .now) (getD (x .order .now) (c .before .before .before .before .before .before .before .before .next-index .result) 0 * size) size) at (c .before .before .lay-out .ensures))
+
+same-length-2 : tie.Need-same-length-2
+same-length-2 c = search needs
+
+returns-2 : tie.Need-returns-2
+returns-2 c = let start = c .before .before .before .before .before .before .before .before .before .before .before .before in let x = start .args in
+    λ base sized shows. rw (found-none (x .b) (x .copies .now) (x .order .now) (start .pre .1 .0 .0) (c .before .before .before .before .before .next-index .ensures .0) (omega (arith, c .before .before .before .before .if1 .left))) (c .before .before .lay-over .ensures base sized shows)
 
 pub lay-logs-spec : {M : Type 1} → statement M
 lay-logs-spec =
     tie.close
     (tie.spec
-    Inv-loop
-    μ-loop
     next-index-requires
-    loop-holds
-    shared-slice-read-merge-range
-    cast-merge-range
-    merge-range-requires
-    add-next-index
-    next-index-requires-2
-    loop-less
-    loop-again
+    mul-size
+    shared-slice-read-at
+    cast-at
+    mul-at
+    add-end
+    sub-lay-out
+    part-lay-out-start
+    part-lay-out-end
+    lay-out-requires
+    lay-over-requires
     same-length
-    returns)
+    returns
+    same-length-2
+    returns-2)

@@ -12,7 +12,7 @@ use Rattle.model.proofs.Limits.{on-chip}
 use Rattle.image.specs.Chip.{spareOnly}
 use Rattle.classes.specs.Columns.{named}
 use Rattle.rescue.specs.Beside.{isUnwritten}
-use Rattle.rescue.proofs.Places.{listed}
+use Rattle.overlay.proofs.Found.{listed}
 use Rattle.rescue.proofs.Standing.{order-within, order-length, column-length, unwritten-at}
 use Rattle.rescue.proofs.unwritten_backs.Statement.{statement}
 use Rattle.rescue.proofs.unwritten_backs.Tie as tie
