@@ -1,32 +1,26 @@
 -- What a log in a bucket just allocated leaves, and the copy made of it.
 use Prim.Native.Nat.{ℕ, _<_}
-use mathlib.Core.Path.{_≡_, refl, sym}
+use mathlib.Core.Path.{_≡_, refl, sym, _∙_}
 use mathlib.Core.Bool.{true, false, true≢false}
 use mathlib.Core.Logic.{_⊎_, inl, inr}
 use mathlib.Core.List.{List, [], _∷_}
-use native.Mathlib.Nat.{mul-le-mul}
 use native.Mathlib.Omega.{arith}
 use lib.ListN.{length}
 use Rattle.lists.specs.Lists.{empty, head}
 use Rattle.lists.proofs.Tests.{true-or-false}
 use Rattle.model.specs.declared.Sizes.{Sizes}
-use Rattle.model.specs.Sizes.{Device, bucketSize}
-use Rattle.model.specs.State.{State, moved, without}
-use Rattle.model.specs.Steps.{_then_, nothing, freed, eraseStep, makeRoom, takeCopy, logStores, fillCopy, copy}
+use Rattle.model.specs.Sizes.{Device}
+use Rattle.model.specs.State.{State, moved, entry, cacheOf, without}
+use Rattle.model.specs.Steps.{_then_, nothing, freed, eraseStep, makeRoom, taken, takeCopy, logStores, fillCopy, copy}
 use Rattle.model.proofs.Limits.{on-chip}
+use Rattle.model.proofs.Queues.{absent-without}
+use Rattle.model.proofs.QueuesGrown.{maps-newest}
 use Rattle.meter.specs.Run.{Run, runAll}
 use Rattle.steps.specs.Turns.{after}
 use Rattle.steps.specs.Ready.{Orderly, Ready}
 use Rattle.steps.proofs.Kept.{Roomed, roomed, free-head, copied-orderly}
 use Rattle.steps.proofs.Turns.{Steady, then-steady, room-steady}
 use Rattle.copying.specs.Fresh.{roomOf, erases, freshStores, Takes, Fresh, Copies}
-
--- a copy is a log of a whole bucket
-pub copy-fresh : {s : State} {b n : ℕ} → Copies s b n → Fresh s n
-unfolding bucketSize
-copy-fresh c =
-    let limits = c .ready .orderly .limits in
-    record { ready = c .ready; epoch = c .epoch; some = omega (arith, c .whole, mul-le-mul (limits .p-low) (limits .s-low)); room = omega (arith, c .whole) }
 
 no-entry : (l : List ℕ) → empty l ≡ true → l ≡ []
 unfolding empty
@@ -53,13 +47,23 @@ module _ (z : Sizes) (s : State) (d : Device) where
       go (inl e) (inl g) = rw (e, g, no-entry (s .free) e, no-entry (s .gc) g)
       go (inl e) (inr g) = rw (e, g, no-entry (s .free) e)
 
+  pub room-inside : Ready s → roomOf s .bucket < s .sizes .c
+  room-inside ready = rw room-bucket at (on-chip (s .sizes) _ (free-head (roomed s ready z d)))
+
   pub takes : {n : ℕ} → Fresh s n → Takes (s .sizes) (roomOf s) n
   takes f = record {
     limits = f .ready .orderly .limits;
-    bucket = rw room-bucket at (on-chip (s .sizes) _ (free-head (roomed s (f .ready) z d)));
+    bucket = room-inside (f .ready);
     some = f .some;
     most = f .room;
   }
+
+  -- and the copy's read bucket
+  pub copied-cache : (b : ℕ) → cacheOf b (takeCopy b (makeRoom z s d .state) .reads) ≡ roomOf s .bucket
+  unfolding takeCopy taken moved entry
+  copied-cache b =
+      let t = makeRoom z s d .state in
+      maps-newest (entry b (head (t .free)) 0) (without b (t .reads)) (absent-without (t .reads) b) .is ∙ room-bucket
 
 -- the state moves by m once the log is in its room
 pub fresh-by : (z : Sizes) (s : State) (r : Run) (m : State → State) → Ready s → (k b off : ℕ) (bytes : List ℕ) {run : Run} {t : State}
@@ -81,7 +85,7 @@ pub copy-steady : (z : Sizes) (k b : ℕ) (bytes : List ℕ) → Steady (copy z 
 unfolding copy fillCopy
 copy-steady z k b bytes = then-steady (makeRoom z) (fillCopy z k b bytes) (room-steady z) (λ t d e. refl)
 
-pub copied-left : {s t : State} {b n : ℕ} → Copies s b n → Roomed s t → Orderly (takeCopy b t)
+pub copied-left : {s t : State} {b : ℕ} → Copies s b → Roomed s t → Orderly (takeCopy b t)
 copied-left {s} {t} {b} c r =
     let place : length (without b (t .reads)) < 64 = rw (r .reads) (c .place) in
     copied-orderly b t (r .orderly) (r .some) place (omega (arith, r .next, c .epoch))

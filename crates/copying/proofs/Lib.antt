@@ -1,1 +1,5 @@
+pub mod Aside
+pub mod Unmoved
+pub mod Filled
 pub mod Copied
+pub mod Sourced

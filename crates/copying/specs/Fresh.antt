@@ -1,14 +1,13 @@
 -- Logs in a bucket just allocated: when one can be made, and its stores.
 use Prim.Native.Nat.{ℕ, _≤_, _<_}
-use mathlib.Core.Path.{_≡_}
 use mathlib.Core.Bool.{not, _&&_}
 use mathlib.Core.List.{List, [], _∷_, _++_}
 use lib.ListN.{length}
-use Rattle.lists.specs.Lists.{if_then_else_, head, empty}
+use Rattle.lists.specs.Lists.{if_then_else_, head, empty, times}
 use Rattle.model.specs.declared.Sizes.{Sizes}
 use Rattle.model.specs.Sizes.{bucketSize}
 use Rattle.model.specs.Stores.{Store, erase}
-use Rattle.model.specs.State.{State, without}
+use Rattle.model.specs.State.{State, without, queued}
 use Rattle.model.specs.Steps.{logStores}
 use Rattle.model.proofs.Limits.{Limits}
 use Rattle.steps.specs.Ready.{Ready}
@@ -43,9 +42,12 @@ pub record Fresh (s : State) (n : ℕ) : Type 0 where
   pub some : 1 ≤ n
   pub room : n ≤ bucketSize (s .sizes)
 
--- n bytes are a copy of the back-end bucket b, for which the read queue has a place
-pub record Copies (s : State) (b n : ℕ) : Type 0 where
+-- the read queue has a place for a copy of the back-end bucket b
+pub record Copies (s : State) (b : ℕ) : Type 0 where
   pub ready : Ready s
   pub place : length (without b (s .reads)) < 64
   pub epoch : s .next ≤ 4294967295
-  pub whole : n ≡ bucketSize (s .sizes)
+
+-- no cache bucket stands twice in the queues: the room is no bucket that the bytes of a copy come from
+abbrev pub Single : State → Type 0
+Single s = (c : ℕ) → times c (queued s) ≤ 1

@@ -9,7 +9,7 @@ use lib.ListN.{length}
 use Rattle.lists.proofs.Tests.{true-or-false}
 use Rattle.model.specs.declared.Sizes.{Sizes}
 use Rattle.model.specs.declared.Entry.{Entry}
-use Rattle.model.specs.Sizes.{Device, bucketSize}
+use Rattle.model.specs.Sizes.{Device}
 use Rattle.model.specs.State.{State, moved, holds, cachesOf, without, isMarked}
 use Rattle.model.specs.Steps.{_then_, move, nothing, makeRoom, taken, takeCopy, dropWrite, copy, merged, evict, fillCopy, writeOut}
 use Rattle.queue.proofs.Without.{without-length}
@@ -27,12 +27,11 @@ unfolding cachesOf
 fewer b l h = omega (arith, rw h at (without-length b l))
 
 -- the read bucket gives up its place to the copy
-pub copies : {s : State} {b n : ℕ} → Evicts s b → holds b (s .reads) ≡ true → n ≡ bucketSize (s .sizes) → Copies s b n
-copies {s} {b} e h whole = record {
+pub copies : {s : State} {b : ℕ} → Evicts s b → holds b (s .reads) ≡ true → Copies s b
+copies {s} {b} e h = record {
   ready = e .ready;
   place = omega (arith, fewer b (s .reads) h, e .ready .orderly .bounded .reads);
   epoch = e .epoch;
-  whole = whole;
 }
 
 -- the bytes are put away, the Write bucket is still there
@@ -69,16 +68,15 @@ module _ (s : State) (b : ℕ) (e : Evicts s b) where
       go (inr h) = rw h stays
 
   -- from the run that put the bytes away
-  module _ (z : Sizes) (bytes : List ℕ) (r : Run) {p : Progress} (q : p ≡ after z (putAway z b bytes) s r) where
+  module _ (z : Sizes) (r : Run) {p : Progress} (q : p ≡ after z (putAway z b (merged z s (r .device) b)) s r) where
     pub dropped-left : Orderly (dropWrite b (p .state))
     unfolding after
-    dropped-left = dropped-orderly b (p .state) (rw (ap (λ (x : Progress). x .state) q) (away z bytes (r .device) .orderly))
+    dropped-left = dropped-orderly b (p .state) (rw (ap (λ (x : Progress). x .state) q) (away z (merged z s (r .device) b) (r .device) .orderly))
 
-    pub put-out-by : s .sizes ≡ z → bytes ≡ merged z s (r .device) b → record { run = p .run; state = dropWrite b (p .state) } ≡ after z (putOut z b) s r
+    pub put-out-by : s .sizes ≡ z → record { run = p .run; state = dropWrite b (p .state) } ≡ after z (putOut z b) s r
     unfolding after putOut putAway move nothing runAll _then_
-    put-out-by sized h =
+    put-out-by sized =
         ap (λ (x : Progress). record { run = x .run; state = dropWrite b (x .state) }) q
-        ∙ ap (λ (l : List ℕ). record { run = runAll z (putAway z b l s (r .device) .stores) r; state = dropWrite b (putAway z b l s (r .device) .state) }) h
         ∙ sym (after-then z (putAway z b (merged z s (r .device) b)) (move (dropWrite b)) (λ t d e. refl) s r sized)
 
   -- the logs are in the read bucket, or they are put out

@@ -9,10 +9,12 @@ use Rattle.model.specs.Spare.{dirtyKind}
 use Rattle.model.specs.State.{State, holds}
 use Rattle.model.specs.Steps.{Step, _then_, move, dropWrite, merged, copy, writeOut}
 use Rattle.steps.specs.Ready.{Ready}
+use Rattle.copying.specs.Fresh.{Single}
 
--- the back-end bucket b of the disk has a Write bucket, and the next epoch is one that spare bytes can say
+-- the back-end bucket b of the disk has a Write bucket, no cache bucket stands twice in the queues, and the next epoch is one that spare bytes can say
 pub record Evicts (s : State) (b : ℕ) : Type 0 where
   pub ready : Ready s
+  pub single : Single s
   pub back : b < s .sizes .b
   pub held : holds b (s .writes) ≡ true
   pub epoch : s .next ≤ 4294967295

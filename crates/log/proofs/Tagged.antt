@@ -17,7 +17,7 @@ module _ (z : Sizes) (log : Log) (n : ℕ) where
   unfolding tagBytes
   tag-length o = refl
 
-  pub tags-length : (o : ℕ) → length (tags z log n o) ≡ o * 16
+  tags-length : (o : ℕ) → length (tags z log n o) ≡ o * 16
   unfolding tags
   tags-length zero = refl
   tags-length (suc o) = rw (length-append (tags z log n o) (pageTag z log n o), tags-length o, tag-length o) (omega arith)

@@ -1,3 +1,4 @@
+pub mod Stays
 pub mod Copies
 pub mod Plans
 pub mod Opened

@@ -1,14 +1,17 @@
 -- A read's plan, by what it hits, and its outcome.
-use Prim.Native.Nat.{ℕ, _≤_}
-use mathlib.Core.Path.{_≡_, refl, sym, ap}
+use Prim.Native.Nat.{ℕ, _+_, _*_, _≤_}
+use mathlib.Core.Path.{_≡_, refl, sym, ap, _∙_}
 use mathlib.Core.Bool.{Bool, true, false, _||_, true≢false}
 use mathlib.Core.List.{List}
+use native.Mathlib.Omega.{arith}
 use lib.ListN.{length}
 use lib.Dec.{ltb}
 use borrow.Author.Tests.{ltb-false}
 use Rattle.lists.specs.Lists.{if_then_else_, part}
+use Rattle.lists.proofs.Parts.{length-part}
 use Rattle.model.specs.declared.Sizes.{Sizes}
-use Rattle.model.specs.Sizes.{Device}
+use Rattle.model.specs.Sizes.{Device, bucketSize}
+use Rattle.model.specs.Stores.{bucketBytes}
 use Rattle.model.specs.State.{State}
 use Rattle.model.specs.Steps.{Step, nothing, move, merged}
 use Rattle.model.specs.Operations.{lastEpoch, touch, isCurrent, readCopy, read}
@@ -56,3 +59,15 @@ module _ (n : ℕ) (s : Struct) (d : Device) (step : Step) {q : Progress} (e : q
   unfolding after sizesOf doneAnswer lentBuffer readBuffer
   handed-read b off buffer h =
       rw (h, ap (λ (t : Progress). t .state) e) (handed-run n (readCall b off buffer) s (placesOf s) d (step (placesOf s) d) {r = q .run} (ap (λ (t : Progress). t .run) e))
+
+-- bytes that are shown unless the read was cut
+pub shown : (cut : Bool) {p q : List ℕ} → (cut ≡ false → p ≡ q) → (buffer : List ℕ) (off n : ℕ) {after : List ℕ}
+    → after ≡ (if cut then buffer else part p off n) → after ≡ (if cut then buffer else part q off n)
+shown true h buffer off n e = e
+shown false h buffer off n e = e ∙ ap (λ (l : List ℕ). part l off n) (h refl)
+
+-- a bucket that shows a whole one's bytes is on the chip
+pub shown-inside : (z : Sizes) (d : Device) (c : ℕ) {bytes : List ℕ} → bucketBytes z d c ≡ bytes → length bytes ≡ bucketSize z → 1 ≤ bucketSize z
+    → c * bucketSize z + bucketSize z ≤ length (d .flash)
+unfolding bucketBytes
+shown-inside z d c e size some = omega (arith, ap length e, size, length-part (d .flash) (c * bucketSize z) (bucketSize z))

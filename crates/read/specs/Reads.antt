@@ -12,12 +12,14 @@ use Rattle.model.specs.Calls.{readCall, carryOut}
 use Rattle.image.specs.Chip.{spareOnly}
 use Rattle.state.specs.declared.State.{State as Struct}
 use Rattle.state.specs.View.{placesOf}
+use Rattle.copying.specs.Fresh.{Single}
 use Rattle.oldest.specs.Drops.{Drops}
 use Rattle.outcome.specs.Handed.{Handed, handed}
 
 -- n bytes of the back-end bucket b, from an offset on, on a chip made by the page rules
 pub record Reads (s : State) (b off n : ℕ) (spare : List ℕ) : Type 0 where
   pub drops : Drops s
+  pub single : Single s
   pub well-formed : wellFormed (s .sizes) (spareOnly spare) ≡ true
   pub back : b < s .sizes .b
   pub range : off + n ≤ bucketSize (s .sizes)

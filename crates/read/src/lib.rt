@@ -1,26 +1,30 @@
 // Read.
 use meter::Meter;
 use model::Answer;
+use model::Sizes;
 use outcome::Outcome;
 use state::State;
 use steps::Turn;
 ghost use mathlib.Core.Path.{_≡_};
-ghost use mathlib.Core.Bool.{_||_};
-ghost use Prim.Native.Nat.{_+_, _≤_};
+ghost use mathlib.Core.Bool.{false, _||_};
+ghost use Prim.Native.Nat.{_+_, _*_, _≤_};
 ghost use lib.ListN.{length};
 ghost use Rattle.lists.specs.Lists.{if_then_else_, part};
 ghost use Rattle.model.specs.Sizes.{bucketSize};
 ghost use Rattle.model.specs.Spare.{readKind, dirtyKind};
-ghost use Rattle.model.specs.State.{holds};
-ghost use Rattle.model.specs.Steps.{nothing};
+ghost use Rattle.model.specs.Stores.{bucketBytes};
+ghost use Rattle.model.specs.State.{holds, cacheOf};
+ghost use Rattle.model.specs.Steps.{nothing, merged};
 ghost use Rattle.model.specs.Operations.{lastEpoch, touch, isCurrent, makePlace, readCopy, read};
 ghost use Rattle.model.specs.Calls.{readCall, carryOut, call};
+ghost use Rattle.model.proofs.Limits.{Limits};
 ghost use Rattle.geometry.specs.Geometry.{device, Lent};
 ghost use Rattle.meter.specs.Run.{running};
 ghost use Rattle.queue.specs.View.{entriesOf};
 ghost use Rattle.state.specs.View.{placesOf, viewOf};
 ghost use Rattle.gather.specs.Sources.{Sources};
 ghost use Rattle.steps.specs.Turns.{reached, after};
+ghost use Rattle.copying.specs.Fresh.{Single};
 ghost use Rattle.outcome.specs.Handed.{handedBack, handed};
 ghost use Rattle.oldest.specs.Drops.{Drops};
 ghost use Rattle.read.specs.Reads.{Reads, copyHanded};
@@ -82,128 +86,39 @@ fn make_copy(
     meter: Meter,
     s: State,
     b: u16,
-    bytes: &[u8],
     flash: &mut [u8],
     spare: &mut [u8],
     disk: &mut [u8],
 ) -> Turn
-    requires { ⌜ Lent (s .sizes) (now flash) (now spare) (now disk) ⌝ }
-    requires { ⌜ Drops (placesOf s) × (s .next ≤ lastEpoch) × (length (now bytes) ≡ bucketSize (s .sizes)) ⌝ }
-    ensures { λ r. ⌜ reached (now (flash .exit)) (now (spare .exit)) (now (disk .exit)) r ≡ after (s .sizes) (readCopy (s .sizes) b (now (bytes .entry))) (placesOf s) (running (now (flash .entry)) (now (spare .entry)) (now (disk .entry)) meter) ⌝ }
+    requires { ⌜ Sources (placesOf s) b (now flash) (now spare) (now disk) ⌝ }
+    requires { ⌜ Drops (placesOf s) × Single (placesOf s) × (s .next ≤ lastEpoch) ⌝ }
+    ensures { λ r. ⌜ reached (now (flash .exit)) (now (spare .exit)) (now (disk .exit)) r ≡ after (s .sizes) (readCopy (s .sizes) b (merged (s .sizes) (placesOf s) (device (now (flash .entry)) (now (spare .entry)) (now (disk .entry))) b)) (placesOf s) (running (now (flash .entry)) (now (spare .entry)) (now (disk .entry)) meter) ⌝ }
     ensures { λ _. ⌜ Lent (s .sizes) (now (flash .exit)) (now (spare .exit)) (now (disk .exit)) ⌝ }
+    ensures { λ r. ⌜ (r .meter .cut ≡ false → bucketBytes (s .sizes) (device (now (flash .exit)) (now (spare .exit)) (now (disk .exit))) (cacheOf b (placesOf (r .state) .reads)) ≡ merged (s .sizes) (placesOf s) (device (now (flash .entry)) (now (spare .entry)) (now (disk .entry))) b) ⌝ }
 {
     let kind = copy_kind(s, b);
     let place = make_place(meter, s, b, flash, spare, disk);
     let rest = place.meter;
     let room = place.state;
-    let made = copying::copy(rest, room, kind, b, bytes, flash, spare, disk);
+    let made = copying::copy(rest, room, kind, b, flash, spare, disk);
     let left = made.meter;
     let state = made.state.set_mark(b);
     Turn { meter: left, state }
 }
 
-// The bytes asked for, unless the read was cut.
-fn show(cut: bool, offset: usize, bytes: &[u8], buffer: &mut [u8])
-    requires { ⌜ offset + length (now buffer) ≤ length (now bytes) ⌝ }
-    ensures { λ _. ⌜ now (buffer .exit) ≡ (if cut then now (buffer .entry) else part (now (bytes .entry)) offset (length (now (buffer .entry)))) ⌝ }
+// The bytes asked for, from the copy just made, unless the read was cut.
+fn show(cut: bool, z: Sizes, c: usize, offset: usize, flash: &[u8], buffer: &mut [u8])
+    requires { ⌜ Limits z × (offset + length (now buffer) ≤ bucketSize z) ⌝ }
+    requires { ⌜ (cut ≡ false → c * bucketSize z + bucketSize z ≤ length (now flash)) ⌝ }
+    ensures { λ _. ⌜ now (buffer .exit) ≡ (if cut then now (buffer .entry) else part (part (now (flash .entry)) (c * bucketSize z) (bucketSize z)) offset (length (now (buffer .entry)))) ⌝ }
 {
     if cut {
         return;
     }
-    let end = offset + buffer.len();
-    area::copy_over(buffer, &bytes[offset..end]);
+    gather::piece_range(flash, z.p * z.s, c, offset, buffer);
 }
 
-// All bytes of b are gathered before the first store.
-fn copy_by(
-    s: State,
-    b: u16,
-    offset: usize,
-    buffer: &mut [u8],
-    allowance: usize,
-    bytes: &mut [u8],
-    flash: &mut [u8],
-    spare: &mut [u8],
-    disk: &mut [u8],
-) -> Outcome
-    requires { ⌜ Lent (s .sizes) (now flash) (now spare) (now disk) ⌝ }
-    requires { ⌜ Reads (placesOf s) b offset (length (now buffer)) (now spare) ⌝ }
-    requires { ⌜ (s .next ≤ lastEpoch) × (length (now bytes) ≡ bucketSize (s .sizes)) ⌝ }
-    ensures { λ r. ⌜ handedBack (device (now (flash .exit)) (now (spare .exit)) (now (disk .exit))) (now (buffer .exit)) r ≡ copyHanded allowance s b offset (now (buffer .entry)) (device (now (flash .entry)) (now (spare .entry)) (now (disk .entry))) ⌝ }
-{
-    gather::merged_range(s, b, 0, flash, spare, disk, bytes);
-    let whole = Meter::whole(allowance);
-    let turn = make_copy(whole, s, b, bytes, flash, spare, disk);
-    let left = turn.meter;
-    let state = turn.state;
-    show(left.cut, offset, bytes, buffer);
-    outcome::finish(left, allowance, Answer::Done, s, state)
-}
-
-fn copy_small(
-    s: State,
-    b: u16,
-    offset: usize,
-    buffer: &mut [u8],
-    allowance: usize,
-    flash: &mut [u8],
-    spare: &mut [u8],
-    disk: &mut [u8],
-) -> Outcome
-    requires { ⌜ Lent (s .sizes) (now flash) (now spare) (now disk) ⌝ }
-    requires { ⌜ Reads (placesOf s) b offset (length (now buffer)) (now spare) ⌝ }
-    requires { ⌜ s .next ≤ lastEpoch ⌝ }
-    requires { ⌜ bucketSize (s .sizes) ≤ 2048 ⌝ }
-    ensures { λ r. ⌜ handedBack (device (now (flash .exit)) (now (spare .exit)) (now (disk .exit))) (now (buffer .exit)) r ≡ copyHanded allowance s b offset (now (buffer .entry)) (device (now (flash .entry)) (now (spare .entry)) (now (disk .entry))) ⌝ }
-{
-    let mut bytes = [0u8; 2048];
-    let z = s.sizes;
-    let size = z.p * z.s;
-    copy_by(
-        s,
-        b,
-        offset,
-        buffer,
-        allowance,
-        &mut bytes[..size],
-        flash,
-        spare,
-        disk,
-    )
-}
-
-fn copy_large(
-    s: State,
-    b: u16,
-    offset: usize,
-    buffer: &mut [u8],
-    allowance: usize,
-    flash: &mut [u8],
-    spare: &mut [u8],
-    disk: &mut [u8],
-) -> Outcome
-    requires { ⌜ Lent (s .sizes) (now flash) (now spare) (now disk) ⌝ }
-    requires { ⌜ Reads (placesOf s) b offset (length (now buffer)) (now spare) ⌝ }
-    requires { ⌜ s .next ≤ lastEpoch ⌝ }
-    ensures { λ r. ⌜ handedBack (device (now (flash .exit)) (now (spare .exit)) (now (disk .exit))) (now (buffer .exit)) r ≡ copyHanded allowance s b offset (now (buffer .entry)) (device (now (flash .entry)) (now (spare .entry)) (now (disk .entry))) ⌝ }
-{
-    let mut bytes = [0u8; 65536];
-    let z = s.sizes;
-    let size = z.p * z.s;
-    copy_by(
-        s,
-        b,
-        offset,
-        buffer,
-        allowance,
-        &mut bytes[..size],
-        flash,
-        spare,
-        disk,
-    )
-}
-
-// A bucket of at most 2,048 bytes is gathered in an array of that size: there is less to clear.
+// The copy is made first: the buffer shows its bytes.
 fn copy_read(
     s: State,
     b: u16,
@@ -219,13 +134,20 @@ fn copy_read(
     requires { ⌜ s .next ≤ lastEpoch ⌝ }
     ensures { λ r. ⌜ handedBack (device (now (flash .exit)) (now (spare .exit)) (now (disk .exit))) (now (buffer .exit)) r ≡ copyHanded allowance s b offset (now (buffer .entry)) (device (now (flash .entry)) (now (spare .entry)) (now (disk .entry))) ⌝ }
 {
-    let z = s.sizes;
-    let size = z.p * z.s;
-    if size <= 2048 {
-        copy_small(s, b, offset, buffer, allowance, flash, spare, disk)
-    } else {
-        copy_large(s, b, offset, buffer, allowance, flash, spare, disk)
-    }
+    let whole = Meter::whole(allowance);
+    let turn = make_copy(whole, s, b, flash, spare, disk);
+    let left = turn.meter;
+    let state = turn.state;
+    let copy = state.reads.find(b);
+    show(
+        left.cut,
+        s.sizes,
+        copy.cache as usize,
+        offset,
+        flash,
+        buffer,
+    );
+    outcome::finish(left, allowance, Answer::Done, s, state)
 }
 
 // With fewer than two epochs left, or with a read bucket that has all logs.

@@ -8,6 +8,7 @@ use Rattle.model.proofs.Calling.{Range}
 use Rattle.steps.specs.Ready.{Ready}
 use Rattle.checks.proofs.Opens.{Open, open-queued, open-orderly, open-formed}
 use Rattle.checks.proofs.Backs.{write-back, write-used, write-count}
+use Rattle.copying.proofs.Aside.{fits-single}
 use Rattle.write.specs.Writes.{Writes}
 
 -- read and write queue leave at least one bucket to the others
@@ -24,6 +25,7 @@ pub open-writes : {s : State} {d : Device} {b off n : ℕ} → Open s d → Rang
 open-writes {s} {d} o range epochs = record {
   yields = record {
     ready = open-ready o;
+    single = fits-single s d (o .fits);
     well-formed = open-formed o;
     backs = λ k. write-back o k;
     epochs = epochs;

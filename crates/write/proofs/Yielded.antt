@@ -28,7 +28,7 @@ use Rattle.arrival.specs.Arrives.{keptFits, Starts}
 use Rattle.write.specs.Writes.{Yields, Writes}
 
 pub yields-evicts : {s : State} {spare : List ℕ} → Yields s spare → (k : ℕ) → holds k (s .writes) ≡ true → Evicts s k
-yields-evicts y k h = record { ready = y .ready; back = y .backs k h; held = h; epoch = omega (arith, y .epochs) }
+yields-evicts y k h = record { ready = y .ready; single = y .single; back = y .backs k h; held = h; epoch = omega (arith, y .epochs) }
 
 -- b has a Write bucket, with enough blank pages by its record
 pub fit-held : (b n : ℕ) (s : State) → keptFits b n s ≡ true → holds b (s .writes) ≡ true

@@ -9,10 +9,12 @@ use Rattle.model.specs.State.{State, holds, cacheOf, blankOf}
 use Rattle.model.specs.Operations.{lastEpoch}
 use Rattle.image.specs.Chip.{spareOnly}
 use Rattle.steps.specs.Ready.{Ready}
+use Rattle.copying.specs.Fresh.{Single}
 
 -- any Write bucket can be evicted, and an epoch is left for the log
 pub record Yields (s : State) (spare : List ℕ) : Type 0 where
   pub ready : Ready s
+  pub single : Single s
   pub well-formed : wellFormed (s .sizes) (spareOnly spare) ≡ true
   pub backs : (k : ℕ) → holds k (s .writes) ≡ true → k < s .sizes .b
   pub epochs : s .next ≤ lastEpoch

@@ -1,9 +1,10 @@
-use Rattle.model.specs.Steps.{writeOut}
-use Rattle.evict.proofs.Evicted.{copies}
-use Rattle.evict.specs.PutAway.{putAway}
-use Rattle.steps.specs.Turns.{after}
 use mathlib.Core.Path.{sym, _∙_}
 use borrow.Author.Needs.{needs}
+use Rattle.model.specs.Steps.{writeOut}
+use Rattle.steps.specs.Turns.{after}
+use Rattle.gather.proofs.Gathered.{sources-of}
+use Rattle.evict.specs.PutAway.{putAway}
+use Rattle.evict.proofs.Evicted.{copies}
 use Rattle.evict.proofs.put_away.Statement.{statement}
 use Rattle.evict.proofs.put_away.Tie as tie
 
@@ -11,8 +12,10 @@ holds-requires : tie.Need-holds-requires
 holds-requires c κs = search needs
 
 copy-requires : tie.Need-copy-requires
-copy-requires c κs = let p = c .before .before .before .before .before .before .before .before .before .pre in
-    (p .0, copies (p .1 .0) (sym (c .before .before .before .before .holds .ensures) ∙ c .before .before .before .if1 .taken) (p .1 .1))
+copy-requires c κs =
+    let p = c .before .before .before .before .before .before .before .before .pre in
+    let evicts = p .1 .0 in
+    (p .0, ((copies evicts (sym (c .before .before .before .before .holds .ensures) ∙ c .before .before .before .if1 .taken), evicts .single), sources-of (evicts .ready .orderly) (p .1 .1) (evicts .back) (p .0)))
 
 same-length : tie.Need-same-length
 same-length c = search needs
@@ -26,13 +29,13 @@ same-length-3 c = search needs
 returns : tie.Need-returns
 unfolding putAway after
 returns c =
-    let holds = c .before .before .before .before .before .before .before .before .before .before .before .holds in
-    let if1 = c .before .before .before .before .before .before .before .before .before .before .if1 in
-    (rw (sym (holds .ensures) ∙ if1 .taken) (c .before .before .before .before .before .before .copy .ensures .0), c .before .before .before .before .before .before .copy .ensures .1)
+    let copied = c .before .before .before .before .before .before .copy .ensures in
+    (rw (sym (c .before .before .before .before .before .before .before .before .before .before .before .holds .ensures) ∙ c .before .before .before .before .before .before .before .before .before .before .if1 .taken) (copied .0), copied .1 .0)
 
-write-units-requires : tie.Need-write-units-requires
-write-units-requires c κs = let p = c .before .before .before .before .before .before .before .before .before .before .pre in
-    (p .0, (p .1 .0 .ready .orderly .limits, p .1 .0 .back, p .1 .1))
+write-merged-requires : tie.Need-write-merged-requires
+write-merged-requires c κs =
+    let p = c .before .before .before .before .before .before .before .before .pre in
+    sources-of (p .1 .0 .ready .orderly) (p .1 .1) (p .1 .0 .back) (p .0)
 
 same-length-4 : tie.Need-same-length-4
 same-length-4 c = search needs
@@ -46,9 +49,11 @@ same-length-6 c = search needs
 returns-2 : tie.Need-returns-2
 unfolding putAway writeOut after
 returns-2 c =
-    let holds = c .before .before .before .before .before .before .before .before .before .before .before .before .holds in
-    let if1 = c .before .before .before .before .before .before .before .before .before .before .before .if1 in
-    (rw (sym (holds .ensures) ∙ if1 .left, c .before .before .before .before .before .before .write-units .ensures .0), c .before .before .before .before .before .before .write-units .ensures .1)
+    let lent = c .before .before .before .before .before .before .before .before .before .before .before .pre .0 in
+    let written = c .before .before .write-merged .ensures in (
+      rw (sym (c .before .before .before .before .before .before .before .holds .ensures) ∙ c .before .before .before .before .before .before .if1 .left, written .0),
+      record { flash-length = lent .flash-length; spare-length = lent .spare-length; disk-length = written .1 },
+    )
 
 pub put-away-spec : {M : Type 1} → statement M
 put-away-spec =
@@ -60,7 +65,7 @@ put-away-spec =
     same-length-2
     same-length-3
     returns
-    write-units-requires
+    write-merged-requires
     same-length-4
     same-length-5
     same-length-6

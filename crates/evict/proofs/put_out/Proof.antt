@@ -1,23 +1,20 @@
-use Rattle.geometry.proofs.Passed.{products}
-use Rattle.model.specs.Sizes.{bucketSize}
-use native.Mathlib.Omega.{arith}
+use mathlib.Core.Path.{refl}
 use borrow.Author.Needs.{needs}
+use Rattle.meter.specs.Run.{running}
+use Rattle.state.specs.View.{placesOf}
+use Rattle.evict.proofs.Evicted.{dropped-left, put-out-by}
 use Rattle.evict.proofs.put_out.Statement.{statement}
 use Rattle.evict.proofs.put_out.Tie as tie
 
-mul-size : tie.Need-mul-size
-mul-size c = omega (arith, products (c .before .before .before .before .before .pre .1 .0 .ready .orderly .limits))
+put-away-requires : tie.Need-put-away-requires
+put-away-requires c κs = search needs
 
-evict-small-requires : tie.Need-evict-small-requires
-unfolding bucketSize
-evict-small-requires c κs =
-    let start = c .before .before .before .before .before .before .before .before .before in
-    (start .pre .0, (start .pre .1, c .before .before .before .if1 .taken))
-
-evict-large-requires : tie.Need-evict-large-requires
-evict-large-requires c κs =
-    let start = c .before .before .before .before .before .before .before .before .before in
-    (start .pre .0, start .pre .1)
+drop-write-requires : tie.Need-drop-write-requires
+drop-write-requires c κs =
+    let start = c .before .before .before .before .before .before .before .before .before .before .before .before .before .before in
+    let a = start .args in
+    let r = running (a .flash .now) (a .spare .now) (a .disk .now) (a .meter) in
+    dropped-left (placesOf (a .s)) (a .b) (start .pre .1 .0) (a .s .sizes) r (c .before .before .before .before .before .before .before .put-away .ensures .0) .bounded
 
 same-length : tie.Need-same-length
 same-length c = search needs
@@ -29,32 +26,20 @@ same-length-3 : tie.Need-same-length-3
 same-length-3 c = search needs
 
 returns : tie.Need-returns
-returns c = c .before .before .before .before .before .before .evict-small .ensures
-
-same-length-4 : tie.Need-same-length-4
-same-length-4 c = search needs
-
-same-length-5 : tie.Need-same-length-5
-same-length-5 c = search needs
-
-same-length-6 : tie.Need-same-length-6
-same-length-6 c = search needs
-
-returns-2 : tie.Need-returns-2
-returns-2 c = c .before .before .before .before .before .before .evict-large .ensures
+returns c =
+    let start = c .before .before .before .before .before .before .before .before .before .before .before .before .before .before .before in
+    let a = start .args in
+    let r = running (a .flash .now) (a .spare .now) (a .disk .now) (a .meter) in
+    let put = c .before .before .before .before .before .before .before .before .put-away .ensures in
+    (rw (c .drop-write .ensures) (put-out-by (placesOf (a .s)) (a .b) (start .pre .1 .0) (a .s .sizes) r (put .0) refl), put .1)
 
 pub put-out-spec : {M : Type 1} → statement M
 put-out-spec =
     tie.close
     (tie.spec
-    mul-size
-    evict-small-requires
-    evict-large-requires
+    put-away-requires
+    drop-write-requires
     same-length
     same-length-2
     same-length-3
-    returns
-    same-length-4
-    same-length-5
-    same-length-6
-    returns-2)
+    returns)
