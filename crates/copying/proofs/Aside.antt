@@ -1,19 +1,19 @@
 -- The room is none of the buckets that a back-end bucket has.
 use Prim.Native.Nat.{ℕ, _+_, _≤_, _<_}
-use mathlib.Core.Path.{_≡_}
+use mathlib.Core.Path.{_≡_, refl}
 use mathlib.Core.Bool.{true, false}
 use mathlib.Core.Logic.{_⊎_, inl, inr, _≢_}
 use mathlib.Core.List.{List}
 use native.Mathlib.Omega.{arith}
 use native.Mathlib.Decide.{decLt}
 use lib.Dec.{ltb}
-use borrow.Author.Tests.{lt-ltb, le-ltb}
-use Rattle.lists.specs.Lists.{if_then_else_, empty, head, times}
+use borrow.Author.Tests.{lt-ltb, le-ltb, not-true}
+use Rattle.lists.specs.Lists.{if_then_else_, empty, head, member, times}
 use Rattle.lists.proofs.Tests.{every-at, true-or-false}
-use Rattle.lists.proofs.Counts.{times-self, times-rest, empty-length}
+use Rattle.lists.proofs.Counts.{times-self, times-rest, empty-length, times-member}
 use Rattle.model.specs.Sizes.{Device, body}
-use Rattle.model.specs.State.{State, holds, cacheOf, queued, stateFits}
-use Rattle.model.proofs.Queues.{maps-times}
+use Rattle.model.specs.State.{State, holds, cacheOf, cachesOf, caches, queued, stateFits}
+use Rattle.model.proofs.Queues.{maps-times, times-left}
 use Rattle.model.proofs.Inside.{places, places-queued}
 use Rattle.model.proofs.InsideLive.{once-of}
 use Rattle.steps.specs.Ready.{Ready}
@@ -45,8 +45,18 @@ module _ (s : State) (ready : Ready s) (single : Single s) where
       go (inl e) (inr g) = rw e (omega (arith, head-stands (s .gc) g))
       go (inl e) (inl g) = absurd (omega (arith, ready .some, empty-length (s .free) e, empty-length (s .gc) g))
 
-  pub no-read : (b : ℕ) → holds b (s .reads) ≡ true → cacheOf b (s .reads) ≢ roomOf s .bucket
-  no-read b h e = omega (arith, single (roomOf s .bucket), places-queued s (roomOf s .bucket), room-stands, maps-times (s .reads) b (roomOf s .bucket) (record { held = h; is = e }))
+  no-queued : (c : ℕ) → 1 ≤ times c (caches (s .reads)) + times c (caches (s .writes)) → c ≢ roomOf s .bucket
+  no-queued c t e = omega (arith, single (roomOf s .bucket), places-queued s (roomOf s .bucket), room-stands, rw e at t)
 
-  pub no-write : (b : ℕ) → holds b (s .writes) ≡ true → cacheOf b (s .writes) ≢ roomOf s .bucket
-  no-write b h e = omega (arith, single (roomOf s .bucket), places-queued s (roomOf s .bucket), room-stands, maps-times (s .writes) b (roomOf s .bucket) (record { held = h; is = e }))
+  module _ (b : ℕ) where
+    pub no-read : holds b (s .reads) ≡ true → cacheOf b (s .reads) ≢ roomOf s .bucket
+    no-read h = no-queued (cacheOf b (s .reads)) (omega (arith, maps-times (s .reads) b (cacheOf b (s .reads)) (record { held = h; is = refl })))
+
+    pub no-write : (c : ℕ) → 1 ≤ times c (cachesOf b (s .writes)) → c ≢ roomOf s .bucket
+    no-write c t = no-queued c (omega (arith, times-left (s .writes) b c))
+
+    pub not-listed : member (roomOf s .bucket) (cachesOf b (s .writes)) ≡ false
+    not-listed =
+        not-true (member (roomOf s .bucket) (cachesOf b (s .writes)))
+        (times-member (roomOf s .bucket) (cachesOf b (s .writes))
+        (omega (arith, single (roomOf s .bucket), places-queued s (roomOf s .bucket), room-stands, times-left (s .writes) b (roomOf s .bucket))))

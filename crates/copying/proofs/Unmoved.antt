@@ -3,17 +3,19 @@ use Prim.Native.Nat.{ℕ, zero, suc, _≤_, _<_}
 use mathlib.Core.Path.{_≡_, refl, sym, ap, _∙_}
 use mathlib.Core.Bool.{Bool, true, false, true≢false}
 use mathlib.Core.Logic.{_⊎_, inl, inr, _≢_}
-use mathlib.Core.List.{List}
+use mathlib.Core.List.{List, [], _∷_}
 use native.Mathlib.Omega.{arith}
 use native.Mathlib.Decide.{ℕ-discrete}
 use lib.Dec.{eqb}
-use Rattle.lists.specs.Lists.{if_then_else_}
+use Rattle.lists.specs.Lists.{if_then_else_, times}
 use Rattle.lists.proofs.Tests.{true-or-false, or-left}
+use Rattle.lists.proofs.Counts.{times-self, times-cons}
 use Rattle.model.specs.declared.Sizes.{Sizes}
 use Rattle.model.specs.Sizes.{Device, body}
 use Rattle.model.specs.Spare.{blank}
 use Rattle.model.specs.Stores.{erase, apply, tagOf, bucketBytes, diskBytes}
 use Rattle.model.specs.Image.{pageFits, used, epochOf, wellFormed, mergeTo, merge}
+use Rattle.model.specs.Recover.{mergeAll}
 use Rattle.model.proofs.Tags.{blank-ff}
 use Rattle.model.proofs.Frames.{Lengths, tag-erased}
 use Rattle.model.proofs.Formed.{Formed, formed-of, formed-test}
@@ -23,7 +25,7 @@ use Rattle.queue.specs.declared.Found.{Found}
 use Rattle.meter.specs.Run.{Run, step, runAll}
 use Rattle.copying.specs.declared.Room.{Room}
 use Rattle.copying.specs.Fresh.{erases}
-use Rattle.copying.specs.Laid.{underBytes, foundBytes}
+use Rattle.copying.specs.Laid.{underBytes, listedBytes}
 
 module _ (z : Sizes) (p-low : 1 ≤ z .p) where
   module _ (d e : Device) where
@@ -34,11 +36,18 @@ module _ (z : Sizes) (p-low : 1 ≤ z .p) where
         let tag = s .tags-same k h in
         rw (endsLog-same z p-low d e c s k h, logBytes-same z p-low d e c s k h, tag, merge-to-same c s base k (omega arith))
 
-    merge-same : (c : ℕ) → Same z d e c → (base : List ℕ) → merge z e c base ≡ merge z d c base
+    pub merge-same : (c : ℕ) → Same z d e c → (base : List ℕ) → merge z e c base ≡ merge z d c base
     unfolding merge
     merge-same c s base = merge-to-same c s base (z .p) (omega arith)
 
-    module _ (logs base : Found) (b : ℕ) (read : base .held ≡ true → Same z d e (base .cache)) (write : logs .held ≡ true → Same z d e (logs .cache)) (disk : diskBytes z e b ≡ diskBytes z d b) where
+    merge-all-same : (l : List ℕ) → ((c : ℕ) → 1 ≤ times c l → Same z d e c) → (base : List ℕ) → mergeAll z e l base ≡ mergeAll z d l base
+    unfolding mergeAll
+    merge-all-same [] h base = refl
+    merge-all-same (c ∷ l) h base =
+        rw (merge-same c (h c (omega (arith, times-cons c c l, times-self c))) base)
+        (merge-all-same l (λ x t. h x (omega (arith, times-cons x c l))) (merge z d c base))
+
+    module _ (base : Found) (b : ℕ) (read : base .held ≡ true → Same z d e (base .cache)) (disk : diskBytes z e b ≡ diskBytes z d b) where
       under-same : underBytes z e base b ≡ underBytes z d base b
       unfolding underBytes
       under-same = go (base .held) refl
@@ -48,15 +57,8 @@ module _ (z : Sizes) (p-low : 1 ≤ z .p) where
           go true h = read h .bytes-same
           go false h = disk
 
-      pub found-same : foundBytes z e logs base b ≡ foundBytes z d logs base b
-      unfolding foundBytes
-      found-same = rw under-same (go (logs .held) refl)
-        where
-          go : (t : Bool) → logs .held ≡ t
-              → (if t then merge z e (logs .cache) (underBytes z d base b) else underBytes z d base b)
-              ≡ (if t then merge z d (logs .cache) (underBytes z d base b) else underBytes z d base b)
-          go true h = merge-same (logs .cache) (write h) (underBytes z d base b)
-          go false h = refl
+      pub listed-same : (list : List ℕ) → ((c : ℕ) → 1 ≤ times c list → Same z d e c) → listedBytes z e list base b ≡ listedBytes z d list base b
+      listed-same list write = rw under-same (merge-all-same list write (underBytes z d base b))
 
   -- ---- an erase
 

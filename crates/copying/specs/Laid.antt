@@ -1,16 +1,17 @@
--- The bytes of a back-end bucket by what the queues say of it, and a cache bucket that they can be laid into.
+-- The bytes of a back-end bucket by where they stand, and a cache bucket that they can be laid into.
 use Prim.Native.Nat.{ℕ, _<_}
 use mathlib.Core.Path.{_≡_}
-use mathlib.Core.Bool.{true}
+use mathlib.Core.Bool.{true, false}
 use mathlib.Core.Logic.{_≢_}
 use mathlib.Core.List.{List}
-use Rattle.lists.specs.Lists.{if_then_else_}
+use Rattle.lists.specs.Lists.{if_then_else_, all, member}
 use Rattle.model.specs.declared.Sizes.{Sizes}
 use Rattle.model.specs.declared.Entry.{Entry}
 use Rattle.model.specs.Sizes.{Device, body}
 use Rattle.model.specs.Stores.{bucketBytes, diskBytes}
-use Rattle.model.specs.Image.{wellFormed, merge}
-use Rattle.model.specs.State.{holds, cacheOf, blankOf, isMarked}
+use Rattle.model.specs.Image.{wellFormed}
+use Rattle.model.specs.State.{isBelow, holds, cacheOf, blankOf, isMarked}
+use Rattle.model.specs.Recover.{mergeAll}
 use Rattle.model.proofs.Limits.{Limits}
 use Rattle.geometry.specs.Geometry.{Lent}
 use Rattle.image.specs.Chip.{spareOnly}
@@ -25,22 +26,18 @@ module _ (z : Sizes) (d : Device) where
   unfoldable pub underBytes : Found → ℕ → List ℕ
   underBytes base b = if base .held then bucketBytes z d (base .cache) else diskBytes z d b
 
-  -- the complete logs of the Write bucket over them: the merged bytes
-  unfoldable pub foundBytes : (logs base : Found) → ℕ → List ℕ
-  foundBytes logs base b = if logs .held then merge z d (logs .cache) (underBytes base b) else underBytes base b
+  -- the complete logs of the listed cache buckets over them
+  abbrev pub listedBytes : List ℕ → Found → ℕ → List ℕ
+  listedBytes list base b = mergeAll z d list (underBytes base b)
 
--- areas and an image that numbers 1, 2 and 4 let pass; the bytes of b come from the disk, or from a read bucket that is not the bucket that they are laid into
-pub record Over (z : Sizes) (base : Found) (b target : ℕ) (flash spare disk : List ℕ) : Type 0 where
+-- areas and an image that numbers 1, 2 and 4 let pass; the bytes come from the disk and from cache buckets that are not the one that they are laid into
+pub record Laid (z : Sizes) (list : List ℕ) (base : Found) (b target : ℕ) (flash spare disk : List ℕ) : Type 0 where
   pub limits : Limits z
   pub lent : Lent z flash spare disk
   pub well-formed : wellFormed z (spareOnly spare) ≡ true
   pub back : b < z .b
   pub bucket : target < z .c
+  pub logs : all (isBelow (body z)) list ≡ true
+  pub logs-aside : member target list ≡ false
   pub read : base .cache < body z
   pub read-aside : base .held ≡ true → base .cache ≢ target
-
--- and no more are the logs over them in that bucket
-pub record Laid (z : Sizes) (logs base : Found) (b target : ℕ) (flash spare disk : List ℕ) : Type 0 where
-  pub over : Over z base b target flash spare disk
-  pub write : logs .cache < body z
-  pub write-aside : logs .held ≡ true → logs .cache ≢ target

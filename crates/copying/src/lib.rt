@@ -9,21 +9,19 @@ ghost use mathlib.Core.Path.{_≡_};
 ghost use mathlib.Core.Bool.{true, false};
 ghost use Prim.Native.Nat.{_*_, _≤_, _<_};
 ghost use lib.ListN.{length, take};
-ghost use Rattle.lists.specs.Lists.{all, member, splice};
-ghost use Rattle.model.specs.Sizes.{bucketSize, body};
+ghost use Rattle.lists.specs.Lists.{splice};
+ghost use Rattle.model.specs.Sizes.{bucketSize};
 ghost use Rattle.model.specs.Stores.{bucketBytes};
-ghost use Rattle.model.specs.State.{isBelow, cacheOf};
+ghost use Rattle.model.specs.State.{cacheOf};
 ghost use Rattle.model.specs.Steps.{merged, copy};
-ghost use Rattle.model.specs.Recover.{mergeAll};
 ghost use Rattle.geometry.specs.Geometry.{device, Lent};
-ghost use Rattle.overlay.specs.Window.{chip};
 ghost use Rattle.meter.specs.Run.{running, runAll};
 ghost use Rattle.log.specs.Logs.{allStores};
 ghost use Rattle.state.specs.View.{placesOf};
 ghost use Rattle.steps.specs.Turns.{reached, after};
 ghost use Rattle.gather.specs.Sources.{Sources};
 ghost use Rattle.copying.specs.Fresh.{roomOf, Takes, erases, freshStores, Copies, Single};
-ghost use Rattle.copying.specs.Laid.{underBytes, foundBytes, Over, Laid};
+ghost use Rattle.copying.specs.Laid.{listedBytes, Laid};
 
 // Where an allocation puts its log: with an empty free queue, into the GC head, which is erased first.
 pub struct Room {
@@ -110,8 +108,8 @@ pub fn fresh_log(
     log::program_log(erased, z, target, bytes, flash, spare, disk)
 }
 
-// Lays so many bytes of b into the bucket: the listed bucket's logs, if there is one, over the read bucket or the disk.
-fn lay_listed(
+// Lays so many bytes of b into the bucket: the logs of the listed buckets over the read bucket or the disk.
+fn lay_bytes(
     z: Sizes,
     list: &[u8],
     base: Found,
@@ -122,9 +120,9 @@ fn lay_listed(
     spare: &[u8],
     disk: &[u8],
 )
-    requires { ⌜ Over z base b bucket (now flash) (now spare) (now disk) ⌝ }
-    requires { ⌜ (all (isBelow (body z)) (now list) ≡ true) × (member bucket (now list) ≡ false) × (n ≤ bucketSize z) ⌝ }
-    ensures { λ _. ⌜ now (flash .exit) ≡ splice (now (flash .entry)) (bucket * bucketSize z) (take n (mergeAll z (chip (now (flash .entry)) (now (spare .entry))) (now (list .entry)) (underBytes z (device (now (flash .entry)) (now (spare .entry)) (now (disk .entry))) base b))) ⌝ }
+    requires { ⌜ Laid z (now list) base b bucket (now flash) (now spare) (now disk) ⌝ }
+    requires { ⌜ n ≤ bucketSize z ⌝ }
+    ensures { λ _. ⌜ now (flash .exit) ≡ splice (now (flash .entry)) (bucket * bucketSize z) (take n (listedBytes z (device (now (flash .entry)) (now (spare .entry)) (now (disk .entry))) (now (list .entry)) base b)) ⌝ }
 {
     if base.held {
         let c = base.cache as usize;
@@ -136,51 +134,27 @@ fn lay_listed(
     overlay::lay_within(z, list, 0, &disk[from..to], bucket, n, flash, spare);
 }
 
-// By what the queues say of b.
-fn lay_found(
-    z: Sizes,
-    logs: Found,
-    base: Found,
-    b: u16,
-    bucket: usize,
-    n: usize,
-    flash: &mut [u8],
-    spare: &[u8],
-    disk: &[u8],
-)
-    requires { ⌜ Laid z logs base b bucket (now flash) (now spare) (now disk) ⌝ }
-    requires { ⌜ n ≤ bucketSize z ⌝ }
-    ensures { λ _. ⌜ now (flash .exit) ≡ splice (now (flash .entry)) (bucket * bucketSize z) (take n (foundBytes z (device (now (flash .entry)) (now (spare .entry)) (now (disk .entry))) logs base b)) ⌝ }
-{
-    let list = [logs.cache];
-    if logs.held {
-        lay_listed(z, &list[..1], base, b, bucket, n, flash, spare, disk);
-    } else {
-        lay_listed(z, &list[..0], base, b, bucket, n, flash, spare, disk);
-    }
-}
-
 // The pages of the copy, as many as the allowance lets be made: their bytes at one go, from where they stand, and then their spare bytes.
 fn fill_room(
     meter: Meter,
     z: Sizes,
     target: Log,
-    logs: Found,
+    list: &[u8],
     base: Found,
     flash: &mut [u8],
     spare: &mut [u8],
     disk: &[u8],
 ) -> Meter
-    requires { ⌜ Laid z logs base (target .back) (target .bucket) (now flash) (now spare) (now disk) ⌝ }
+    requires { ⌜ Laid z (now list) base (target .back) (target .bucket) (now flash) (now spare) (now disk) ⌝ }
     requires { ⌜ target .first ≡ 0 ⌝ }
-    ensures { λ r. ⌜ running (now (flash .exit)) (now (spare .exit)) (now (disk .entry)) r ≡ runAll z (allStores z target (foundBytes z (device (now (flash .entry)) (now (spare .entry)) (now (disk .entry))) logs base (target .back))) (running (now (flash .entry)) (now (spare .entry)) (now (disk .entry)) meter) ⌝ }
-    ensures { λ r. ⌜ (r .cut ≡ false → bucketBytes z (device (now (flash .exit)) (now (spare .exit)) (now (disk .entry))) (target .bucket) ≡ foundBytes z (device (now (flash .entry)) (now (spare .entry)) (now (disk .entry))) logs base (target .back)) ⌝ }
+    ensures { λ r. ⌜ running (now (flash .exit)) (now (spare .exit)) (now (disk .entry)) r ≡ runAll z (allStores z target (listedBytes z (device (now (flash .entry)) (now (spare .entry)) (now (disk .entry))) (now (list .entry)) base (target .back))) (running (now (flash .entry)) (now (spare .entry)) (now (disk .entry)) meter) ⌝ }
+    ensures { λ r. ⌜ (r .cut ≡ false → bucketBytes z (device (now (flash .exit)) (now (spare .exit)) (now (disk .entry))) (target .bucket) ≡ listedBytes z (device (now (flash .entry)) (now (spare .entry)) (now (disk .entry))) (now (list .entry)) base (target .back)) ⌝ }
 {
     let pages = units::allowed(meter, z);
     let n = pages * z.s;
-    lay_found(
+    lay_bytes(
         z,
-        logs,
+        list,
         base,
         target.back,
         target.bucket,
@@ -212,12 +186,23 @@ pub fn copy(
     ensures { λ r. ⌜ (r .meter .cut ≡ false → bucketBytes (s .sizes) (device (now (flash .exit)) (now (spare .exit)) (now (disk .exit))) (cacheOf b (placesOf (r .state) .reads)) ≡ merged (s .sizes) (placesOf s) (device (now (flash .entry)) (now (spare .entry)) (now (disk .entry))) b) ⌝ }
 {
     let room = room_of(s);
-    let logs = s.writes.find(b);
+    let logs = gather::logs_of(s, b);
+    let list = logs.list;
+    let n = logs.count;
     let base = s.reads.find(b);
     let roomed = s.roomed();
     let state = roomed.take_copy(b);
     let erased = erase_room(meter, s.sizes, room, flash, spare, disk);
     let target = log_in(room, kind, b, 0);
-    let left = fill_room(erased, s.sizes, target, logs, base, flash, spare, disk);
+    let left = fill_room(
+        erased,
+        s.sizes,
+        target,
+        &list[..n],
+        base,
+        flash,
+        spare,
+        disk,
+    );
     Turn { meter: left, state }
 }

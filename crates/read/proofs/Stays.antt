@@ -14,8 +14,8 @@ use Rattle.lists.proofs.Counts.{times-cons, times-append}
 use Rattle.model.specs.declared.Sizes.{Sizes}
 use Rattle.model.specs.declared.Entry.{Entry}
 use Rattle.model.specs.Sizes.{Device}
-use Rattle.model.specs.Stores.{tagOf, bucketBytes, unitStores}
-use Rattle.model.specs.Image.{isDirty}
+use Rattle.model.specs.Stores.{tagOf, bucketBytes, diskBytes, unitStores}
+use Rattle.model.specs.Image.{isDirty, merge}
 use Rattle.model.specs.State.{State, moved, entry, isOf, holds, cacheOf, caches, cacheBucket, remarked}
 use Rattle.model.specs.Steps.{nothing, baseBytes, merged}
 use Rattle.model.specs.Operations.{dropOldest, withoutOldest, makePlace}
@@ -29,8 +29,7 @@ use Rattle.queue.specs.View.{noEntry}
 use Rattle.meter.specs.Run.{Run, runAll}
 use Rattle.units.proofs.Kept.{Kept, units-kept}
 use Rattle.copying.specs.Fresh.{Single}
-use Rattle.copying.specs.Laid.{found, underBytes, foundBytes}
-use Rattle.copying.proofs.Unmoved.{found-same}
+use Rattle.copying.proofs.Unmoved.{merge-same}
 use Rattle.oldest.specs.Drops.{Drops}
 use Rattle.oldest.proofs.Dropped.{some-read, oldest-below}
 
@@ -97,16 +96,21 @@ module _ (s : State) (o : Drops s) (single : Single s) (b : ℕ) where
         )
 
     fewer-bytes : (d e : Device) → Kept z (oldest .back) d e → merged z (withoutOldest s) e b ≡ merged z s d b
-    unfolding merged baseBytes withoutOldest moved entry foundBytes underBytes
+    unfolding merged baseBytes withoutOldest moved entry
     fewer-bytes d e kept =
-        let same = same-chip z d e (kept .flash) (kept .spare) in
         rw (
           holds-map (remarked (oldest .back) false) (keeps-remarked (oldest .back) false) (s .writes) b,
           cacheOf-map (remarked (oldest .back) false) (keeps-remarked (oldest .back) false) (s .writes) b,
           holds-rest b (s .reads) none,
           none,
+          kept .others b other,
         )
-        (rw none at (found-same z (o .orderly .limits .p-low) d e (found b (s .writes)) (found b (s .reads)) b (λ h. same (cacheOf b (s .reads))) (λ h. same (cacheOf b (s .writes))) (kept .others b other)))
+        (go (holds b (s .writes)))
+      where
+        go : (t : Bool)
+            → (if t then merge z e (cacheOf b (s .writes)) (diskBytes z d b) else diskBytes z d b) ≡ (if t then merge z d (cacheOf b (s .writes)) (diskBytes z d b) else diskBytes z d b)
+        go true = merge-same z (o .orderly .limits .p-low) d e (cacheOf b (s .writes)) (same-chip z d e (kept .flash) (kept .spare) (cacheOf b (s .writes))) (diskBytes z d b)
+        go false = refl
 
     fewer : (d e : Device) → Kept z (oldest .back) d e → Stays s (withoutOldest s) b d e
     fewer d e kept = record { single = fewer-single; spare = kept .spare; bytes = fewer-bytes d e kept }

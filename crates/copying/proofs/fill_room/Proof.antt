@@ -9,39 +9,39 @@ use Rattle.model.proofs.Limits.{pages-whole}
 use Rattle.geometry.specs.Geometry.{device}
 use Rattle.geometry.proofs.Passed.{products}
 use Rattle.meter.specs.declared.Meter.{Meter}
-use Rattle.copying.specs.Laid.{foundBytes}
+use Rattle.copying.specs.Laid.{listedBytes}
 use Rattle.copying.proofs.Filled.{copy-spliced, copy-whole}
-use Rattle.copying.proofs.Sourced.{found-size}
+use Rattle.copying.proofs.Sourced.{listed-size}
 use Rattle.copying.proofs.fill_room.Statement.{statement}
 use Rattle.copying.proofs.fill_room.Tie as tie
 
 -- the pages that are made lie within the bucket
-within : (c : tie.After-allowed) → c .allowed .result * c .before .before .before .before .args .z .s ≤ c .before .before .before .before .args .z .p * c .before .before .before .before .args .z .s
-within c = mul-le-mul-right (c .before .before .before .before .args .z .s) (omega (arith, c .allowed .ensures))
+within : (c : tie.After-allowed) → c .allowed .result * c .before .before .before .before .before .args .z .s ≤ c .before .before .before .before .before .args .z .p * c .before .before .before .before .before .args .z .s
+within c = mul-le-mul-right (c .before .before .before .before .before .args .z .s) (omega (arith, c .allowed .ensures))
 
 allowed-requires : tie.Need-allowed-requires
 allowed-requires c κs = search needs
 
 mul-n : tie.Need-mul-n
-mul-n c = omega (arith, within (c .before), products (c .before .before .before .before .before .pre .0 .over .limits))
+mul-n c = omega (arith, within (c .before), products (c .before .before .before .before .before .before .pre .0 .limits))
 
-lay-found-requires : tie.Need-lay-found-requires
+lay-bytes-requires : tie.Need-lay-bytes-requires
 unfolding bucketSize
-lay-found-requires c κs = (c .before .before .before .before .before .before .before .pre .0, within (c .before .before .before))
+lay-bytes-requires c κs = (c .before .before .before .before .before .before .before .before .pre .0, within (c .before .before .before))
 
 mul-write-tags : tie.Need-mul-write-tags
-mul-write-tags c = omega (arith, products (c .before .before .before .before .before .before .before .before .before .before .before .pre .0 .over .limits))
+mul-write-tags c = omega (arith, products (c .before .before .before .before .before .before .before .before .before .before .before .before .pre .0 .limits))
 
 write-tags-requires : tie.Need-write-tags-requires
 unfolding bucketSize
 write-tags-requires c κs =
-    let start = c .before .before .before .before .before .before .before .before .before .before .before .before in
-    let over = start .pre .0 .over in
+    let start = c .before .before .before .before .before .before .before .before .before .before .before .before .before in
+    let laid = start .pre .0 in
     let z = start .args .z in
-    let pages : pagesFor z (z .p * z .s) ≡ z .p = pages-whole z (omega (arith, over .limits .s-low)) in (
-      record { limits = over .limits; bucket = over .bucket; some = omega (arith, mul-le-mul (over .limits .p-low) (over .limits .s-low)); room = omega (arith, pages, start .pre .1) },
+    let pages : pagesFor z (z .p * z .s) ≡ z .p = pages-whole z (omega (arith, laid .limits .s-low)) in (
+      record { limits = laid .limits; bucket = laid .bucket; some = omega (arith, mul-le-mul (laid .limits .p-low) (laid .limits .s-low)); room = omega (arith, pages, start .pre .1) },
       omega (arith, pages, c .before .before .before .before .before .before .before .before .allowed .ensures),
-      over .lent .spare-length,
+      laid .lent .spare-length,
     )
 
 spent-requires : tie.Need-spent-requires
@@ -56,15 +56,14 @@ same-length-2 c = search needs
 returns : tie.Need-returns
 unfolding bucketSize bucketBytes
 returns c =
-    let start = c .before .before .before .before .before .before .before .before .before .before .before .before .before .before .before .before in
+    let start = c .before .before .before .before .before .before .before .before .before .before .before .before .before .before .before .before .before in
     let a = start .args in
     let laid = start .pre .0 in
-    let over = laid .over in
-    let bytes = foundBytes (a .z) (device (a .flash .now) (a .spare .now) (a .disk .now)) (a .logs) (a .base) (a .target .back) in
-    let spliced = copy-spliced (a .z) (over .limits) (a .target) (start .pre .1) (over .bucket) bytes (found-size laid) (a .flash .now) (a .spare .now) (a .disk .now) (over .lent) (a .meter) in (
-      rw (c .spent .ensures, c .before .before .before .write-tags .ensures, c .before .before .before .before .before .before .before .before .lay-found .ensures, c .before .before .before .before .before .before .before .before .before .before .before .before .allowed .ensures) (sym spliced),
-      λ uncut. rw (c .before .before .before .before .before .before .before .before .lay-found .ensures, c .before .before .before .before .before .before .before .before .before .before .before .before .allowed .ensures)
-          (copy-whole (a .z) (over .limits) (a .target) (start .pre .1) (over .bucket) bytes (found-size laid) (a .flash .now) (a .spare .now) (a .disk .now) (over .lent) (a .meter) (sym (ap (λ (m : Meter). m .cut) (c .spent .ensures)) ∙ uncut)),
+    let bytes = listedBytes (a .z) (device (a .flash .now) (a .spare .now) (a .disk .now)) (a .list .now) (a .base) (a .target .back) in
+    let spliced = copy-spliced (a .z) (laid .limits) (a .target) (start .pre .1) (laid .bucket) bytes (listed-size laid) (a .flash .now) (a .spare .now) (a .disk .now) (laid .lent) (a .meter) in (
+      rw (c .spent .ensures, c .before .before .before .write-tags .ensures, c .before .before .before .before .before .before .before .before .lay-bytes .ensures, c .before .before .before .before .before .before .before .before .before .before .before .before .allowed .ensures) (sym spliced),
+      λ uncut. rw (c .before .before .before .before .before .before .before .before .lay-bytes .ensures, c .before .before .before .before .before .before .before .before .before .before .before .before .allowed .ensures)
+          (copy-whole (a .z) (laid .limits) (a .target) (start .pre .1) (laid .bucket) bytes (listed-size laid) (a .flash .now) (a .spare .now) (a .disk .now) (laid .lent) (a .meter) (sym (ap (λ (m : Meter). m .cut) (c .spent .ensures)) ∙ uncut)),
     )
 
 pub fill-room-spec : {M : Type 1} → statement M
@@ -73,7 +72,7 @@ fill-room-spec =
     (tie.spec
     allowed-requires
     mul-n
-    lay-found-requires
+    lay-bytes-requires
     mul-write-tags
     write-tags-requires
     spent-requires

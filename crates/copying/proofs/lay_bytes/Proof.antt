@@ -14,11 +14,14 @@ use Rattle.lists.proofs.Arrays.{empty-length}
 use Rattle.model.specs.Sizes.{bucketSize, diskSize}
 use Rattle.model.specs.Stores.{bucketBytes, diskBytes}
 use Rattle.model.proofs.Limits.{on-chip}
+use Rattle.geometry.specs.Geometry.{device}
 use Rattle.geometry.proofs.Places.{nth-inside}
 use Rattle.geometry.proofs.Passed.{products}
+use Rattle.overlay.proofs.SameChip.{same-merge-all}
 use Rattle.copying.specs.Laid.{underBytes}
-use Rattle.copying.proofs.lay_listed.Statement.{statement}
-use Rattle.copying.proofs.lay_listed.Tie as tie
+use Rattle.copying.proofs.Sourced.{readable}
+use Rattle.copying.proofs.lay_bytes.Statement.{statement}
+use Rattle.copying.proofs.lay_bytes.Tie as tie
 
 -- the bytes of b lie on the disk
 inside : (c : tie.Start) → c .args .b * (c .args .z .p * c .args .z .s) + c .args .z .p * c .args .z .s ≤ length (c .args .disk .now)
@@ -33,19 +36,19 @@ slice-aggregate-lay-within c = search needs
 
 lay-within-requires : tie.Need-lay-within-requires
 lay-within-requires c κs =
-    let start = c .before .before .before .before .before .before .before .before in
-    let over = start .pre .0 in
-    let asked = start .pre .1 in (
-      record { limits = over .limits; flash-length = over .lent .flash-length; spare-length = over .lent .spare-length; well-formed = over .well-formed },
-      (asked .0, ((over .bucket, on-chip _ _ (over .read), asked .2), record { unlisted = asked .1; lent = inr (refl, over .read-aside (c .before .before .before .if1 .taken)) })),
-    )
+    let p = c .before .before .before .before .before .before .before .before .pre in
+    let laid = p .0 in
+    (readable laid, (laid .logs, ((laid .bucket, on-chip _ _ (laid .read), p .1), record { unlisted = laid .logs-aside; lent = inr (refl, laid .read-aside (c .before .before .before .if1 .taken)) })))
 
 same-length : tie.Need-same-length
 same-length c = search needs
 
 returns : tie.Need-returns
 unfolding underBytes bucketBytes empty
-returns c = rw (c .before .before .before .before .before .before .if1 .taken) (c .before .before .lay-within .ensures)
+returns c =
+    let a = c .before .before .before .before .before .before .before .before .before .before .before .args in
+    let d = device (a .flash .now) (a .spare .now) (a .disk .now) in
+    rw (c .before .before .before .before .before .before .if1 .taken, ← same-merge-all (a .z) d (a .list .now) (bucketBytes (a .z) d (a .base .cache))) (c .before .before .lay-within .ensures)
 
 mul-from : tie.Need-mul-from
 mul-from c = omega (arith, products (c .before .before .before .before .before .before .pre .0 .limits))
@@ -72,13 +75,10 @@ lay-within-requires-2 : tie.Need-lay-within-requires-2
 unfolding bucketSize
 lay-within-requires-2 c κs =
     let start = c .before .before .before .before .before .before .before .before .before in
-    let over = start .pre .0 in
-    let asked = start .pre .1 in
+    let laid = start .pre .0 in
     let a = start .args in
-    let size = a .z .p * a .z .s in (
-      record { limits = over .limits; flash-length = over .lent .flash-length; spare-length = over .lent .spare-length; well-formed = over .well-formed },
-      (asked .0, ((over .bucket, omega (arith, over .limits .c-low), asked .2), record { unlisted = asked .1; lent = inl (lent-length (a .disk .now) (a .b * size) size (inside start)) })),
-    )
+    let size = a .z .p * a .z .s in
+    (readable laid, (laid .logs, ((laid .bucket, omega (arith, laid .limits .c-low), start .pre .1), record { unlisted = laid .logs-aside; lent = inl (lent-length (a .disk .now) (a .b * size) size (inside start)) })))
 
 same-length-2 : tie.Need-same-length-2
 same-length-2 c = search needs
@@ -91,10 +91,11 @@ returns-2 c =
     let size = a .z .p * a .z .s in
     let some : empty (part (a .disk .now) (a .b * size) size) ≡ false =
     empty-length (part (a .disk .now) (a .b * size) size) ∙ ne-eqb (length (part (a .disk .now) (a .b * size) size)) 0 (λ e. omega (arith, length-part-fits (a .disk .now) (a .b * size) size (inside start), mul-le-mul (start .pre .0 .limits .p-low) (start .pre .0 .limits .s-low))) in
-    rw (c .before .before .before .before .before .before .before .if1 .left) (rw (lent-part (a .disk .now) (a .b * size) size, some) at (c .before .before .lay-within2 .ensures))
+    let d = device (a .flash .now) (a .spare .now) (a .disk .now) in
+    rw (c .before .before .before .before .before .before .before .if1 .left, ← same-merge-all (a .z) d (a .list .now) (diskBytes (a .z) d (a .b))) (rw (lent-part (a .disk .now) (a .b * size) size, some) at (c .before .before .lay-within2 .ensures))
 
-pub lay-listed-spec : {M : Type 1} → statement M
-lay-listed-spec =
+pub lay-bytes-spec : {M : Type 1} → statement M
+lay-bytes-spec =
     tie.close
     (tie.spec
     cast-c
