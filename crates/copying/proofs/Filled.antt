@@ -18,8 +18,7 @@ use Rattle.model.proofs.Limits.{Limits, pages-whole}
 use Rattle.geometry.specs.Geometry.{Lent}
 use Rattle.geometry.proofs.Places.{bucket-data, bucket-spare}
 use Rattle.meter.specs.declared.Meter.{Meter}
-use Rattle.meter.specs.Run.{running, runAll}
-use Rattle.units.specs.Spent.{allowed, spent}
+use Rattle.meter.specs.Run.{running, allowed, spent, runAll}
 use Rattle.log.specs.declared.Log.{Log}
 use Rattle.log.specs.Logs.{tags, allStores}
 use Rattle.log.proofs.Spliced.{pages-spliced}
@@ -50,8 +49,8 @@ module _ (z : Sizes) (limits : Limits z) (log : Log) (begins : log .first ≡ 0)
     data-inside = rw start bucket-inside
 
     pub copy-spliced : runAll z (allStores z log bytes) (running flash spare disk m)
-        ≡ running (splice flash (log .bucket * bucketSize z) (take (allowed z m * z .s) bytes)) (splice spare (pageIndex z (log .bucket) (log .first) * 16) (tags z log (bucketSize z) (allowed z m))) disk (spent z m)
-    unfolding logStores spent
+        ≡ running (splice flash (log .bucket * bucketSize z) (take (allowed (z .p) m * z .s) bytes)) (splice spare (pageIndex z (log .bucket) (log .first) * 16) (tags z log (bucketSize z) (allowed (z .p) m))) disk (spent (z .p) m)
+    unfolding logStores
     copy-spliced =
         rw (all-pages, ← start, ← size)
         (pages-spliced z log bytes flash spare disk m (z .p) all-whole data-inside tags-inside (z .p) (omega arith))
@@ -61,7 +60,7 @@ module _ (z : Sizes) (limits : Limits z) (log : Log) (begins : log .first ≡ 0)
     neither false u h = h
 
     -- unless it was cut, all pages are made
-    pub copy-whole : spent z m .cut ≡ false → part (splice flash (log .bucket * bucketSize z) (take (allowed z m * z .s) bytes)) (log .bucket * bucketSize z) (bucketSize z) ≡ bytes
+    pub copy-whole : spent (z .p) m .cut ≡ false → part (splice flash (log .bucket * bucketSize z) (take (allowed (z .p) m * z .s) bytes)) (log .bucket * bucketSize z) (bucketSize z) ≡ bytes
     unfolding spent bucketSize
     copy-whole h =
         let enough : z .p ≤ m .left = ltb-false (m .left) (z .p) (neither (m .cut) (ltb (m .left) (z .p)) h) in

@@ -150,7 +150,7 @@ fn fill_room(
     ensures { λ r. ⌜ running (now (flash .exit)) (now (spare .exit)) (now (disk .entry)) r ≡ runAll z (allStores z target (listedBytes z (device (now (flash .entry)) (now (spare .entry)) (now (disk .entry))) (now (list .entry)) base (target .back))) (running (now (flash .entry)) (now (spare .entry)) (now (disk .entry)) meter) ⌝ }
     ensures { λ r. ⌜ (r .cut ≡ false → bucketBytes z (device (now (flash .exit)) (now (spare .exit)) (now (disk .entry))) (target .bucket) ≡ listedBytes z (device (now (flash .entry)) (now (spare .entry)) (now (disk .entry))) (now (list .entry)) base (target .back)) ⌝ }
 {
-    let pages = units::allowed(meter, z);
+    let pages = meter::allowed(meter, z.p);
     let n = pages * z.s;
     lay_bytes(
         z,
@@ -164,7 +164,7 @@ fn fill_room(
         disk,
     );
     log::write_tags(z, target, z.p * z.s, pages, spare);
-    units::spent(meter, z)
+    meter::spent(meter, z.p)
 }
 
 // The copy of b becomes its read bucket, the most recent one; the bucket that it takes the place of joins GC. What the queues say of b is looked

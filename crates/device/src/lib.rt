@@ -6,8 +6,9 @@ ghost use lib.ListN.{length};
 ghost use Rattle.lists.specs.Lists.{splice, ff};
 ghost use Rattle.model.specs.Sizes.{pageIndex, bucketSize, flashSize, spareSize, diskSize};
 ghost use Rattle.model.specs.Stores.{apply};
+ghost use Rattle.model.proofs.Limits.{Limits};
 ghost use Rattle.geometry.specs.Geometry.{device, Lent};
-ghost use Rattle.device.specs.Made.{made, Placed};
+ghost use Rattle.device.specs.Made.{made, Placed, beginsAt, Names};
 
 pub enum Store {
     Program { bucket: usize, page: usize },
@@ -90,5 +91,17 @@ pub fn carry_out(
         Store::Program { bucket, page } => program(z, bucket, page, data, tag, flash, spare),
         Store::Erase { bucket } => erase(z, bucket, flash, spare),
         Store::Unit { index } => write_unit(z, index, data, disk),
+    }
+}
+
+// Where the bytes of a store begin, for code that lays those of many in a row there itself.
+pub fn begins(what: Store, z: Sizes) -> usize
+    requires { ⌜ Limits z × Names z what ⌝ }
+    ensures { λ r. ⌜ r ≡ beginsAt z what ⌝ }
+{
+    match what {
+        Store::Program { bucket, page } => (bucket * z.p + page) * z.s,
+        Store::Erase { bucket } => bucket * (z.p * z.s),
+        Store::Unit { index } => index * z.s,
     }
 }

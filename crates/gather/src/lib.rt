@@ -133,8 +133,9 @@ pub fn write_merged(
     ensures { λ _. ⌜ length (now (disk .exit)) ≡ diskSize (s .sizes) ⌝ }
 {
     let z = s.sizes;
-    let at = b as usize * (z.p * z.s);
-    let end = at + units::allowed(meter, z) * z.s;
+    let place = units::place(meter, z, b as usize);
+    let at = place.at;
+    let end = place.end;
     lay_merged(s, b, flash, spare, &mut disk[at..end]);
-    units::spent(meter, z)
+    meter::spent(meter, z.p)
 }

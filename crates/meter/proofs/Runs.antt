@@ -1,16 +1,17 @@
 -- Laws of runs: one plan after another, what an allowance makes of a plan, and the outcome that follows.
-use Prim.Native.Nat.{ℕ, zero, suc, _+_, _-_, _<_, _≤_}
+use Prim.Native.Nat.{ℕ, zero, suc, _+_, _-_, _<_, _≤_, min}
 use mathlib.Core.Path.{_≡_, refl, ap, _∙_}
-use mathlib.Core.Bool.{Bool, true, false}
+use mathlib.Core.Bool.{Bool, true, false, or-true, or-false}
 use mathlib.Core.Logic.{_⊎_, inl, inr}
 use mathlib.Core.List.{List, [], _∷_, _++_}
 use native.Mathlib.Nat.{zero-sub, suc-sub-suc, sub-zero}
 use native.Mathlib.Numerals.{add-one, sub-one}
 use native.Mathlib.Omega.{arith}
+use native.Mathlib.Decide.{decLt}
 use lib.ListN.{length, take}
 use lib.Dec.{ltb, eqb, leb·suc-suc, leb·suc-zero, leb·zero, eqb·suc-zero}
 use lib.Seq.{take-nil, take-all}
-use borrow.Author.Tests.{ltb-true, ltb-false}
+use borrow.Author.Tests.{ltb-true, ltb-false, lt-ltb, le-ltb, ne-eqb}
 use Rattle.lists.specs.Lists.{row}
 use Rattle.model.specs.declared.Sizes.{Sizes}
 use Rattle.model.specs.Sizes.{Device}
@@ -18,7 +19,8 @@ use Rattle.model.specs.Stores.{Store, apply, applyAll}
 use Rattle.model.specs.State.{State}
 use Rattle.model.specs.Steps.{Plan}
 use Rattle.model.specs.Calls.{Call, sizesOf, carryOut}
-use Rattle.meter.specs.Run.{Run, fresh, step, runAll, ended}
+use Rattle.meter.specs.declared.Meter.{Meter}
+use Rattle.meter.specs.Run.{Run, fresh, allowed, spent, step, runAll, ended}
 
 module _ (z : Sizes) where
   pub run-append : (ss ts : List Store) (r : Run) → runAll z (ss ++ ts) r ≡ runAll z ts (runAll z ss r)
@@ -58,6 +60,41 @@ module _ (z : Sizes) where
   run-first [] d n = rw (take-nil {A = Store} n, sub-zero n, leb·suc-zero n)
   run-first (s ∷ ss) d zero = run-cut ss d ∙ rw (zero-sub (suc (length ss)), leb·suc-suc 0 (length ss), leb·zero (length ss))
   run-first (s ∷ ss) d (suc n) = rw (eqb·suc-zero n, sub-one (suc n)) (run-first ss (apply z d s) n ∙ rw (suc-sub-suc n (length ss), leb·suc-suc (suc n) (length ss)))
+
+-- A row of stores that lead from each device of a row to the next: so many are made as the allowance has left, and the run is cut if these are not all.
+module _ (z : Sizes) (f : ℕ → Store) (g : ℕ → Device) (m : Meter) where
+  -- n of them were asked for
+  abbrev asked : ℕ → Run
+  asked n = record { device = g (allowed n m); meter = spent n m }
+
+  asked-made : (n : ℕ) → apply z (g n) (f n) ≡ g (suc n) → n < m .left → step z (f n) (asked n) ≡ asked (suc n)
+  unfolding step spent
+  asked-made n leads more =
+      let some : eqb (m .left - n) 0 ≡ false = ne-eqb (m .left - n) 0 (λ e. omega arith) in
+      let before : min (m .left) n ≡ n = omega arith in
+      let after : min (m .left) (suc n) ≡ suc n = omega arith in
+      let rest : m .left - n - 1 ≡ m .left - suc n = omega arith in
+      rw (some, before, after, le-ltb (m .left) n (omega arith), le-ltb (m .left) (suc n) more, rest, leads)
+
+  asked-cut : (n : ℕ) → m .left ≤ n → step z (f n) (asked n) ≡ asked (suc n)
+  unfolding step spent
+  asked-cut n none =
+      let gone : m .left - n ≡ 0 = omega arith in
+      let after : m .left - suc n ≡ 0 = omega arith in
+      let least : min (m .left) n ≡ min (m .left) (suc n) = omega arith in
+      rw (gone, after, least, lt-ltb (m .left) (suc n) (omega arith), or-true (m .cut))
+
+  pub row-run : (n : ℕ) → ((k : ℕ) → k < n → apply z (g k) (f k) ≡ g (suc k)) → runAll z (row n f) (record { device = g 0; meter = m }) ≡ asked n
+  unfolding row runAll spent
+  row-run zero leads =
+      let none : min (m .left) 0 ≡ 0 = omega arith in
+      rw (none, sub-zero (m .left), le-ltb (m .left) 0 (omega arith), or-false (m .cut))
+  row-run (suc n) leads =
+      rw (run-append z (row n f) (f n ∷ []) (record { device = g 0; meter = m }), row-run n (λ k h. leads k (omega arith))) (go (decLt n (m .left)))
+    where
+      go : Dec (n < m .left) → step z (f n) (asked n) ≡ asked (suc n)
+      go (yes more) = asked-made n (leads n (omega arith)) more
+      go (no none) = asked-cut n (omega arith)
 
 -- the allowance does not grow
 pub run-left : (z : Sizes) (ss : List Store) (d : Device) (n : ℕ) → runAll z ss (fresh d n) .meter .left ≤ n

@@ -1,8 +1,8 @@
 -- Stores under an allowance, one after the other.
-use Prim.Native.Nat.{ℕ, _-_}
-use mathlib.Core.Bool.{true, false}
+use Prim.Native.Nat.{ℕ, _-_, min}
+use mathlib.Core.Bool.{true, false, _||_}
 use mathlib.Core.List.{List, [], _∷_}
-use lib.Dec.{eqb}
+use lib.Dec.{ltb, eqb}
 use Rattle.lists.specs.Lists.{if_then_else_}
 use Rattle.model.specs.declared.Sizes.{Sizes}
 use Rattle.model.specs.declared.Answer.the-variants.{Cut}
@@ -25,6 +25,14 @@ running f s d m = record { device = device f s d; meter = m }
 -- with a whole allowance of n stores
 abbrev pub fresh : Device → ℕ → Run
 fresh d n = record { device = d; meter = record { left = n; cut = false } }
+
+-- how many of n stores in a row an allowance lets be made
+abbrev pub allowed : ℕ → Meter → ℕ
+allowed n m = min (m .left) n
+
+-- what is left of it once all n were asked for
+unfoldable pub spent : ℕ → Meter → Meter
+spent n m = record { left = m .left - n; cut = m .cut || ltb (m .left) n }
 
 module _ (z : Sizes) where
   -- a store is made if the allowance has one left; if not, the run is cut

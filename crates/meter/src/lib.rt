@@ -7,7 +7,7 @@ ghost use Rattle.geometry.specs.Geometry.{Lent};
 ghost use Prim.Native.Nat.{_<_};
 ghost use Rattle.model.specs.Stores.{erase};
 ghost use Rattle.device.specs.Made.{made, Placed};
-ghost use Rattle.meter.specs.Run.{running, step};
+ghost use Rattle.meter.specs.Run.{running, allowed, spent, step};
 
 pub struct Meter {
     pub left: usize,
@@ -51,6 +51,22 @@ pub fn store(
         left: left - 1,
         cut: meter.cut,
     }
+}
+
+// How many of n stores in a row the allowance lets be made. Code that makes them at one go relies on the law `row-run` of `proofs/Runs`.
+pub fn allowed(meter: Meter, n: usize) -> usize
+    ensures { λ r. ⌜ r ≡ allowed n meter ⌝ }
+{
+    if meter.left < n { meter.left } else { n }
+}
+
+// The allowance once they were made, and the rest of the n asked for.
+pub fn spent(meter: Meter, n: usize) -> Meter
+    ensures { λ r. ⌜ r ≡ spent n meter ⌝ }
+{
+    let left = meter.left - allowed(meter, n);
+    let cut = meter.cut | (meter.left < n);
+    Meter { left, cut }
 }
 
 // Erases a bucket of the chip.

@@ -23,11 +23,11 @@ fn write_out(meter: Meter, z: Sizes, b: usize, c: usize, flash: &[u8], disk: &mu
     ensures { λ r. ⌜ ((spare : List ℕ) → running (now (flash .entry)) spare (now (disk .exit)) r ≡ runAll z (unitStores z b (bucketBytes z (device (now (flash .entry)) spare (now (disk .entry))) c)) (running (now (flash .entry)) spare (now (disk .entry)) meter)) ⌝ }
     ensures { λ _. ⌜ length (now (disk .exit)) ≡ diskSize z ⌝ }
 {
-    let size = z.p * z.s;
-    let at = b * size;
-    let end = at + units::allowed(meter, z) * z.s;
-    gather::piece_range(flash, size, c, 0, &mut disk[at..end]);
-    units::spent(meter, z)
+    let place = units::place(meter, z, b);
+    let at = place.at;
+    let end = place.end;
+    gather::piece_range(flash, z.p * z.s, c, 0, &mut disk[at..end]);
+    meter::spent(meter, z.p)
 }
 
 // With a full read queue, the least recent bucket joins GC; the units of a Dirty one are written first.

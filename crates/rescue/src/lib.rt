@@ -165,8 +165,9 @@ fn rescue_one(
     ensures { λ r. ⌜ running (now (flash .entry)) (now (spare .entry)) (now (disk .exit)) r ≡ runAll z (rescueStores z (device (now (flash .entry)) (now (spare .entry)) (now (disk .entry))) b) (running (now (flash .entry)) (now (spare .entry)) (now (disk .entry)) meter) ⌝ }
     ensures { λ _. ⌜ length (now (disk .exit)) ≡ diskSize z ⌝ }
 {
-    let at = b * (z.p * z.s);
-    let end = at + units::allowed(meter, z) * z.s;
+    let place = units::place(meter, z, b);
+    let at = place.at;
+    let end = place.end;
     lay_rescued(
         z,
         b as u16,
@@ -178,7 +179,7 @@ fn rescue_one(
         spare,
         &mut disk[at..end],
     );
-    units::spent(meter, z)
+    meter::spent(meter, z.p)
 }
 
 // The back-end bucket of what a dropped bucket alone holds: of a Dirty copy, or of a Write bucket.

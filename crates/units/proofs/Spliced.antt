@@ -1,15 +1,11 @@
 -- The units of a back-end bucket that an allowance lets be made are one splice into the disk.
-use Prim.Native.Nat.{ℕ, zero, suc, _+_, _-_, _*_, _≤_, _<_, min}
-use mathlib.Core.Path.{_≡_, sym, ap, _∙_}
-use mathlib.Core.Bool.{false, _||_, or-true, or-false}
-use mathlib.Core.List.{List, [], _∷_}
-use native.Mathlib.Nat.{add-zero, add-mul, mul-assoc, suc-mul, zero-mul, mul-le-mul-right, sub-zero}
-use native.Mathlib.Decide.{decLt}
+use Prim.Native.Nat.{ℕ, suc, _+_, _-_, _*_, _≤_, _<_}
+use mathlib.Core.Path.{_≡_, refl, sym, ap, _∙_}
+use mathlib.Core.List.{List}
+use native.Mathlib.Nat.{add-zero, add-mul, mul-assoc, suc-mul, zero-mul, mul-le-mul-right}
 use native.Mathlib.Omega.{arith}
 use lib.ListN.{length, take, drop}
 use lib.Seq.{take-add, length-take-le}
-use lib.Dec.{ltb, eqb}
-use borrow.Author.Tests.{lt-ltb, le-ltb, ne-eqb}
 use borrow.Rule.Slice.PartMut.{midOf, putMid}
 use Rattle.lists.specs.Lists.{row, splice, part}
 use Rattle.lists.proofs.Parts.{length-splice}
@@ -19,34 +15,26 @@ use Rattle.lists.proofs.Lent.{put-back, lent-part, lent-length}
 use Rattle.model.specs.declared.Sizes.{Sizes}
 use Rattle.model.specs.Sizes.{bucketSize, diskSize}
 use Rattle.model.specs.Stores.{apply, unitStore, unitStores}
+use Rattle.geometry.specs.Geometry.{device}
 use Rattle.geometry.proofs.Places.{nth-inside}
 use Rattle.meter.specs.declared.Meter.{Meter}
-use Rattle.meter.specs.Run.{Run, running, step, runAll}
-use Rattle.meter.proofs.Runs.{run-append}
-use Rattle.units.specs.Spent.{allowed, spent}
+use Rattle.meter.specs.Run.{running, allowed, spent, runAll}
+use Rattle.meter.proofs.Runs.{row-run}
+use Rattle.units.specs.declared.Part.{Part}
 
 -- the bytes of a back-end bucket lie on the disk, and those of the units that are made lie among them
 pub bytes-inside : (z : Sizes) (b : ℕ) (disk : List ℕ) → b < z .b → length disk ≡ diskSize z → b * bucketSize z + bucketSize z ≤ length disk
 unfolding diskSize
 bytes-inside z b disk back len = omega (arith, nth-inside b (z .b) (bucketSize z) back, len)
 
-pub made-inside : (z : Sizes) (m : Meter) {count : ℕ} → count ≡ allowed z m → count * z .s ≤ bucketSize z
+pub made-inside : (z : Sizes) (m : Meter) {count : ℕ} → count ≡ allowed (z .p) m → count * z .s ≤ bucketSize z
 unfolding bucketSize
 made-inside z m many = mul-le-mul-right (z .s) (omega (arith, many))
-
--- a part of the disk that is lent for the first n of a back-end bucket's m bytes shows them
-pub lent-shows : (l : List ℕ) (i m n : ℕ) → n ≤ m → i + m ≤ length l → midOf i ((i + n) - i) l ≡ part (part l i m) 0 (length (midOf i ((i + n) - i) l))
-lent-shows l i m n h f =
-    rw (lent-length l i n (omega arith), lent-part l i n) (sym (part-part l i m 0 n (omega arith) f ∙ ap (λ (k : ℕ). part l k n) (add-zero i)))
 
 module _ (z : Sizes) (b : ℕ) (bytes flash spare disk : List ℕ) (m : Meter) (size : length bytes ≡ bucketSize z) (inside : b * bucketSize z + bucketSize z ≤ length disk) where
   -- so many of the bucket's bytes on the disk
   abbrev written : ℕ → List ℕ
   written n = splice disk (b * bucketSize z) (take n bytes)
-
-  -- n units were asked for
-  abbrev asked : ℕ → Run
-  asked n = running flash spare (written (min (m .left) n * z .s)) (record { left = m .left - n; cut = m .cut || ltb (m .left) n })
 
   -- one unit more
   written-more : (n : ℕ) → n < z .p → splice (written (n * z .s)) ((b * z .p + n) * z .s) (part bytes (n * z .s) (z .s)) ≡ written (suc n * z .s)
@@ -58,64 +46,58 @@ module _ (z : Sizes) (b : ℕ) (bytes flash spare disk : List ℕ) (m : Meter) (
       rw (place, suc-mul, take-add)
       (splice-next disk (b * (z .p * z .s)) (take (n * z .s) bytes) (take (z .s) (drop (n * z .s) bytes)) (omega arith))
 
-  made : (n : ℕ) → n < z .p → n < m .left → step z (unitStore z b bytes n) (asked n) ≡ asked (suc n)
-  unfolding step apply unitStore
-  made n h more =
-      let some : eqb (m .left - n) 0 ≡ false = ne-eqb (m .left - n) 0 (λ e. omega arith) in
-      let before : min (m .left) n ≡ n = omega arith in
-      let after : min (m .left) (suc n) ≡ suc n = omega arith in
-      let rest : m .left - n - 1 ≡ m .left - suc n = omega arith in
-      rw (some, before, after, le-ltb (m .left) n (omega arith), le-ltb (m .left) (suc n) more, rest, written-more n h)
+  none : written (0 * z .s) ≡ disk
+  none = rw (zero-mul (z .s)) (splice-none disk (b * bucketSize z))
 
-  cut : (n : ℕ) → m .left ≤ n → step z (unitStore z b bytes n) (asked n) ≡ asked (suc n)
-  unfolding step
-  cut n none =
-      let gone : m .left - n ≡ 0 = omega arith in
-      let after : m .left - suc n ≡ 0 = omega arith in
-      let least : min (m .left) n ≡ min (m .left) (suc n) = omega arith in
-      rw (gone, after, least, lt-ltb (m .left) (suc n) (omega arith), or-true (m .cut))
+  leads : (n : ℕ) → n < z .p → apply z (device flash spare (written (n * z .s))) (unitStore z b bytes n) ≡ device flash spare (written (suc n * z .s))
+  unfolding apply unitStore
+  leads n h = rw (written-more n h)
 
-  row-spliced : (n : ℕ) → n ≤ z .p → runAll z (row n (unitStore z b bytes)) (running flash spare disk m) ≡ asked n
-  unfolding row runAll
-  row-spliced zero h =
-      let none : min (m .left) 0 ≡ 0 = omega arith in
-      rw (none, zero-mul (z .s), splice-none disk (b * bucketSize z), sub-zero (m .left), le-ltb (m .left) 0 (omega arith), or-false (m .cut))
-  row-spliced (suc n) h =
-      rw (run-append z (row n (unitStore z b bytes)) (unitStore z b bytes n ∷ []) (running flash spare disk m), row-spliced n (omega arith))
-      (go (decLt n (m .left)))
-    where
-      go : Dec (n < m .left) → step z (unitStore z b bytes n) (asked n) ≡ asked (suc n)
-      go (yes more) = made n h more
-      go (no none) = cut n (omega arith)
+  units-spliced : runAll z (unitStores z b bytes) (running flash spare disk m) ≡ running flash spare (written (allowed (z .p) m * z .s)) (spent (z .p) m)
+  unfolding unitStores
+  units-spliced =
+      ap (λ (l : List ℕ). runAll z (row (z .p) (unitStore z b bytes)) (running flash spare l m)) (sym none)
+      ∙ row-run z (unitStore z b bytes) (λ k. device flash spare (written (k * z .s))) m (z .p) leads
 
-  units-spliced : runAll z (unitStores z b bytes) (running flash spare disk m) ≡ running flash spare (written (allowed z m * z .s)) (spent z m)
-  unfolding unitStores spent
-  units-spliced = row-spliced (z .p) (omega arith)
+-- code lends the part of the disk for the units that are made
+module _ (z : Sizes) (b : ℕ) (disk : List ℕ) (m : Meter) (inside : b * bucketSize z + bucketSize z ≤ length disk) {lent : Part}
+    (placed : lent ≡ record { at = b * bucketSize z; end = b * bucketSize z + allowed (z .p) m * z .s }) where
+  abbrev at : ℕ
+  at = b * bucketSize z
 
--- code lends the part of the disk for the units that are made, and it comes back with their bytes
-module _ (z : Sizes) (b : ℕ) (bytes disk : List ℕ) (m : Meter) (size : length bytes ≡ bucketSize z) (inside : b * bucketSize z + bucketSize z ≤ length disk) where
-  module _ {count : ℕ} {back : List ℕ} (many : count ≡ allowed z m) (laid : back ≡ part bytes 0 (length (midOf (b * bucketSize z) ((b * bucketSize z + count * z .s) - b * bucketSize z) disk))) where
-    abbrev at : ℕ
-    at = b * bucketSize z
+  abbrev n : ℕ
+  n = allowed (z .p) m * z .s
 
-    abbrev n : ℕ
-    n = count * z .s
+  many : n ≤ bucketSize z
+  many = made-inside z m refl
 
-    abbrev after : List ℕ
-    after = putMid at ((at + n) - at) disk back
+  pub lent-order : lent .at ≤ lent .end
+  lent-order = rw placed (omega arith)
 
-    shown : back ≡ take n bytes
+  pub lent-end : lent .end ≤ length disk
+  lent-end = rw placed (omega (arith, many))
+
+  pub lent-most : length (midOf (lent .at) (lent .end - lent .at) disk) ≤ bucketSize z
+  lent-most = rw placed (omega (arith, many, lent-length disk at n (omega (arith, many))))
+
+  -- it shows what the disk has of the bucket
+  pub lent-shows : midOf (lent .at) (lent .end - lent .at) disk ≡ part (part disk at (bucketSize z)) 0 (length (midOf (lent .at) (lent .end - lent .at) disk))
+  lent-shows =
+      rw (placed, lent-length disk at n (omega (arith, many)), lent-part disk at n)
+      (sym (part-part disk at (bucketSize z) 0 n (omega (arith, many)) inside ∙ ap (λ (i : ℕ). part disk i n) (add-zero at)))
+
+  -- and comes back with their bytes
+  module _ (bytes : List ℕ) (size : length bytes ≡ bucketSize z) {back : List ℕ} (laid : back ≡ part bytes 0 (length (midOf (lent .at) (lent .end - lent .at) disk))) where
+    made : length (take n bytes) ≡ n
+    made = length-take-le n bytes (omega (arith, many))
+
+    put : putMid (lent .at) (lent .end - lent .at) disk back ≡ splice disk at (take n bytes)
     unfolding part
-    shown = rw (lent-length disk at n (omega (arith, made-inside z m many))) at laid
+    put = rw placed (put-back disk at n (rw (placed, lent-length disk at n (omega (arith, many))) at laid) made)
 
-    all : length (take n bytes) ≡ n
-    all = length-take-le n bytes (omega (arith, made-inside z m many))
+    pub laid-length : length (putMid (lent .at) (lent .end - lent .at) disk back) ≡ length disk
+    laid-length = ap length put ∙ length-splice disk at (take n bytes) (omega (arith, made, many))
 
-    put : after ≡ splice disk at (take n bytes)
-    put = put-back disk at n shown all
-
-    pub laid-length : length after ≡ length disk
-    laid-length = ap length put ∙ length-splice disk at (take n bytes) (omega (arith, all, made-inside z m many))
-
-    pub units-laid : {left : Meter} → left ≡ spent z m → (flash spare : List ℕ) → running flash spare after left ≡ runAll z (unitStores z b bytes) (running flash spare disk m)
-    units-laid rest flash spare = rw (rest, put, many) (sym (units-spliced z b bytes flash spare disk m size inside))
+    pub units-laid : {left : Meter} → left ≡ spent (z .p) m → (flash spare : List ℕ)
+        → running flash spare (putMid (lent .at) (lent .end - lent .at) disk back) left ≡ runAll z (unitStores z b bytes) (running flash spare disk m)
+    units-laid rest flash spare = rw (rest, put) (sym (units-spliced z b bytes flash spare disk m size inside))
