@@ -4,7 +4,9 @@
 //! spare bytes they need. `harness time REPEATS` times every row and prints `ROW
 //! PROVED RUST` in nanoseconds of a call for each repeat. `harness run ROW
 //! proved|rust COUNT` makes one run and times nothing, for a count of instructions.
-//! `harness limit REPEATS` and `harness pass COUNT` do the same for a bare pass.
+//! `harness limit REPEATS` and `harness pass COUNT` do the same for a bare pass,
+//! `harness merges`, `harness time-merges REPEATS` and `harness run-merge ROW
+//! old|new COUNT` for the old and the new merge, both proved.
 
 use std::hint::black_box;
 
@@ -31,6 +33,23 @@ macro_rules! exported {
 }
 
 exported!(bench_writes bench_reads bench_drains bench_recoveries);
+
+/// Those that merge.
+macro_rules! exported_merges {
+    ($($name:ident)*) => {
+        #[link(name = "bench")]
+        extern "C" {
+            $(fn $name(
+                n: usize, s: usize, logs: usize, apart: usize, from: usize,
+                log: *const u8, log_length: usize, window: *mut u8, window_length: usize,
+                flash: *mut u8, flash_length: usize, spare: *mut u8, spare_length: usize,
+                disk: *mut u8, disk_length: usize,
+            ) -> usize;)*
+        }
+    };
+}
+
+exported_merges!(bench_old_merges bench_new_merges);
 
 #[derive(Clone, Copy)]
 enum Work {
@@ -195,7 +214,7 @@ impl Areas {
 }
 
 /// Formats, makes the calls before and `count` more, and gives the stores made after the format.
-type Engine = fn(&Row, usize, &mut Areas) -> usize;
+type Side<R> = fn(&R, usize, &mut Areas) -> usize;
 
 fn proved(row: &Row, count: usize, areas: &mut Areas) -> usize {
     let function = match row.work {
@@ -291,6 +310,145 @@ impl Plain<'_> {
     }
 }
 
+/// Logs of one Write bucket, all of one length.
+struct Logs {
+    what: &'static str,
+    count: usize,
+    bytes: usize,
+    /// From the start of a log to that of the next.
+    apart: usize,
+}
+
+/// The bytes that are merged.
+struct Window {
+    what: &'static str,
+    from: usize,
+    length: usize,
+}
+
+const LOGS: [Logs; 7] = [
+    Logs {
+        what: "1 log of 1,024 bytes",
+        count: 1,
+        bytes: 1024,
+        apart: 0,
+    },
+    Logs {
+        what: "1 log of 65,536 bytes",
+        count: 1,
+        bytes: 65_536,
+        apart: 0,
+    },
+    Logs {
+        what: "8 logs of 1,024 bytes, apart",
+        count: 8,
+        bytes: 1024,
+        apart: 8192,
+    },
+    Logs {
+        what: "8 logs of 8,192 bytes, each half over the one before",
+        count: 8,
+        bytes: 8192,
+        apart: 4096,
+    },
+    Logs {
+        what: "64 logs of 1,024 bytes, end to end",
+        count: 64,
+        bytes: 1024,
+        apart: 1024,
+    },
+    Logs {
+        what: "64 logs of 1,024 bytes, each half over the one before",
+        count: 64,
+        bytes: 1024,
+        apart: 512,
+    },
+    Logs {
+        what: "64 logs of 1,024 bytes, all in one place",
+        count: 64,
+        bytes: 1024,
+        apart: 0,
+    },
+];
+
+const WINDOWS: [Window; 2] = [
+    Window {
+        what: "all 65,536 bytes",
+        from: 0,
+        length: 65_536,
+    },
+    Window {
+        what: "1,024 bytes from 512 on",
+        from: 512,
+        length: 1024,
+    },
+];
+
+struct Merge {
+    logs: &'static Logs,
+    window: &'static Window,
+}
+
+/// Every window over all logs.
+fn merges() -> Vec<Merge> {
+    let over = |logs| WINDOWS.iter().map(move |window| Merge { logs, window });
+    LOGS.iter().flat_map(over).collect()
+}
+
+impl Merge {
+    /// Merges that are timed.
+    const COUNT: usize = 500;
+
+    const SIZES: Row = Row {
+        back_end_buckets: 1,
+        ..LARGE
+    };
+
+    fn name(&self) -> String {
+        format!("{}; {}", self.logs.what, self.window.what)
+    }
+
+    /// A chip, and a page of the window's length.
+    fn areas(&self) -> Areas {
+        Areas {
+            page: vec![0; self.window.length],
+            ..Areas::new(&Merge::SIZES.sizes())
+        }
+    }
+}
+
+/// Writes the logs on a formatted chip, and merges them into the page so many times.
+macro_rules! merging {
+    ($name:ident $function:ident) => {
+        fn $name(merge: &Merge, count: usize, areas: &mut Areas) -> usize {
+            let log: Vec<u8> = (0..merge.logs.bytes).map(|i| !i as u8).collect();
+            // Each pointer and length are those of a whole vector.
+            unsafe {
+                $function(
+                    count,
+                    Merge::SIZES.page_bytes,
+                    merge.logs.count,
+                    merge.logs.apart,
+                    merge.window.from,
+                    log.as_ptr(),
+                    log.len(),
+                    areas.page.as_mut_ptr(),
+                    areas.page.len(),
+                    areas.flash.as_mut_ptr(),
+                    areas.flash.len(),
+                    areas.spare.as_mut_ptr(),
+                    areas.spare.len(),
+                    areas.disk.as_mut_ptr(),
+                    areas.disk.len(),
+                )
+            }
+        }
+    };
+}
+
+merging!(merge_old bench_old_merges);
+merging!(merge_new bench_new_merges);
+
 extern "C" {
     fn clock_gettime(clock: i32, time: *mut [i64; 2]) -> i32;
 }
@@ -304,42 +462,68 @@ fn processor_time() -> f64 {
     time[0] as f64 * 1e9 + time[1] as f64
 }
 
-/// Nanoseconds of one run, and its sum of stores.
-fn timed(engine: Engine, row: &Row, count: usize, areas: &mut Areas) -> (f64, usize) {
-    let begin = processor_time();
-    let stores = engine(row, count, areas);
-    (processor_time() - begin, stores)
+/// A row for two sides that take turns.
+struct Pair<'a, R> {
+    name: &'a str,
+    row: &'a R,
+    /// Calls that are timed.
+    count: usize,
+    sides: [Side<R>; 2],
 }
 
-/// Nanoseconds of one call in each engine: a run less one without the calls that are timed.
-fn repeat(row: &Row, one: &mut Areas, other: &mut Areas) -> (f64, f64) {
-    let (one_before, _) = timed(proved, row, 0, one);
-    let (other_before, _) = timed(plain, row, 0, other);
-    let (one_all, one_stores) = timed(proved, row, row.count, one);
-    let (other_all, other_stores) = timed(plain, row, row.count, other);
-    assert_eq!(one_stores, other_stores, "{}: stores differ", row.name);
-    assert!(
-        one == other,
-        "{}: chip, disk or bytes read differ",
-        row.name
-    );
-    let count = row.count as f64;
-    (
-        (one_all - one_before) / count,
-        (other_all - other_before) / count,
-    )
+impl<R> Pair<'_, R> {
+    /// Nanoseconds of one run, and its sum of stores.
+    fn timed(&self, side: usize, count: usize, areas: &mut [Areas; 2]) -> (f64, usize) {
+        let begin = processor_time();
+        let stores = self.sides[side](self.row, count, &mut areas[side]);
+        (processor_time() - begin, stores)
+    }
+
+    /// Nanoseconds of one call on each side: a run less one without the calls that are timed.
+    fn repeat(&self, areas: &mut [Areas; 2]) -> [f64; 2] {
+        let before = [0, 1].map(|side| self.timed(side, 0, areas).0);
+        let [one, other] = [0, 1].map(|side| self.timed(side, self.count, areas));
+        assert_eq!(one.1, other.1, "{}: stores differ", self.name);
+        assert!(
+            areas[0] == areas[1],
+            "{}: chip, disk or bytes read differ",
+            self.name
+        );
+        let count = self.count as f64;
+        [(one.0 - before[0]) / count, (other.0 - before[1]) / count]
+    }
+
+    fn time(&self, repeats: usize, mut areas: [Areas; 2]) {
+        // The first is not counted: it takes its memory from the system page by page.
+        self.repeat(&mut areas);
+        for _ in 0..repeats {
+            let [one, other] = self.repeat(&mut areas);
+            println!("{}\t{one:.0}\t{other:.0}", self.name);
+        }
+    }
 }
 
 fn time_rows(repeats: usize) {
     for row in &ROWS {
-        let mut one = Areas::new(&row.sizes());
-        let mut other = Areas::new(&row.sizes());
-        // The first is not counted: it takes its memory from the system page by page.
-        repeat(row, &mut one, &mut other);
-        for _ in 0..repeats {
-            let (proved, rust) = repeat(row, &mut one, &mut other);
-            println!("{}\t{proved:.0}\t{rust:.0}", row.name);
-        }
+        let pair = Pair {
+            name: row.name,
+            row,
+            count: row.count,
+            sides: [proved, plain],
+        };
+        pair.time(repeats, [0, 1].map(|_| Areas::new(&row.sizes())));
+    }
+}
+
+fn time_merges(repeats: usize) {
+    for merge in merges() {
+        let pair = Pair {
+            name: &merge.name(),
+            row: &merge,
+            count: Merge::COUNT,
+            sides: [merge_new, merge_old],
+        };
+        pair.time(repeats, [0, 1].map(|_| merge.areas()));
     }
 }
 
@@ -377,8 +561,15 @@ fn time_limit(repeats: usize) {
 
 fn run_once(name: &str, engine: &str, count: usize) {
     let row = ROWS.iter().find(|row| row.name == name).expect("a row");
-    let engine = if engine == "proved" { proved } else { plain };
+    let engine: Side<Row> = if engine == "proved" { proved } else { plain };
     println!("{}", engine(row, count, &mut Areas::new(&row.sizes())));
+}
+
+fn merge_once(name: &str, which: &str, count: usize) {
+    let merges = merges();
+    let merge = merges.iter().find(|merge| merge.name() == name).expect("a merge");
+    let side: Side<Merge> = if which == "old" { merge_old } else { merge_new };
+    println!("{}", side(merge, count, &mut merge.areas()));
 }
 
 fn main() {
@@ -392,10 +583,18 @@ fn main() {
         ["run", name, engine @ ("proved" | "rust"), count] => {
             run_once(name, engine, number(count))
         }
+        ["merges"] => merges()
+            .iter()
+            .for_each(|merge| println!("{}\t{}", merge.logs.what, merge.window.what)),
+        ["time-merges", repeats] => time_merges(number(repeats)),
+        ["run-merge", name, which @ ("old" | "new"), count] => {
+            merge_once(name, which, number(count))
+        }
         ["limit", repeats] => time_limit(number(repeats)),
         ["pass", count] => bare_passes(number(count), &erased_spare()),
         _ => panic!(
-            "usage: harness rows | time REPEATS | run ROW proved|rust COUNT | limit REPEATS | pass COUNT"
+            "usage: harness rows | time REPEATS | run ROW proved|rust COUNT | merges | time-merges REPEATS \
+             | run-merge ROW old|new COUNT | limit REPEATS | pass COUNT"
         ),
     }
 }

@@ -1,4 +1,4 @@
-"""Times and instruction counts of the proved engine and the Rust one, row by row."""
+"""Times and instruction counts of two sides, row by row: the proved engine and the Rust one, or the new merge and the old."""
 
 import collections
 import re
@@ -8,7 +8,7 @@ import subprocess
 
 # Seconds of each repeat on either side, the instructions of one call or line, and the passes over the spare bytes
 # that a call cannot do without (None: not known).
-Row = collections.namedtuple("Row", "name what proved rust proved_count rust_count passes")
+Row = collections.namedtuple("Row", "name what one other one_count other_count passes")
 
 # One bare pass over the spare bytes: seconds of each repeat, and its instructions.
 Limit = collections.namedtuple("Limit", "seconds count")
@@ -28,18 +28,18 @@ def spread(row):
 
 
 def single_ratios(row):
-    """Proved over Rust, of each repeat: the two sides take turns."""
-    return [one / other for one, other in zip(row.proved, row.rust)]
+    """One over the other, of each repeat: the two sides take turns."""
+    return [one / other for one, other in zip(row.one, row.other)]
 
 
 def limit_ratio(row, limit):
     """What the row's passes alone would take, over what the Rust engine takes; None where they are not known."""
-    return row.passes * statistics.median(limit.seconds) / statistics.median(row.rust) if row.passes else None
+    return row.passes * statistics.median(limit.seconds) / statistics.median(row.other) if row.passes else None
 
 
 def count_ratio(row):
     """The ratio of the instruction counts."""
-    return row.proved_count / row.rust_count
+    return row.one_count / row.other_count
 
 
 def instructions(command, text=b""):
@@ -55,12 +55,27 @@ def instructions(command, text=b""):
 def engine_rows(harness, repeats, count):
     """The rows of the harness, with the instructions of a few calls of each."""
     described = [line.split("\t") for line in lines_of([harness, "rows"])]
-    times = collections.defaultdict(list)
-    for line in lines_of([harness, "time", str(repeats)]):
-        name, proved, rust = line.split("\t")
-        times[name].append((float(proved) * 1e-9, float(rust) * 1e-9))
-    return [Row(name, what, *zip(*times[name]), one_of([harness, "run", name, "proved"], count),
+    times = times_of([harness, "time", str(repeats)])
+    return [Row(name, what, *times[name], one_of([harness, "run", name, "proved"], count),
                 one_of([harness, "run", name, "rust"], count), int(passes)) for name, what, passes in described]
+
+
+def merge_rows(harness, repeats, count):
+    """The new merge over the old, both proved."""
+    described = [line.split("\t") for line in lines_of([harness, "merges"])]
+    times = times_of([harness, "time-merges", str(repeats)])
+    return [Row(name, what, *times[f"{name}; {what}"], one_of([harness, "run-merge", f"{name}; {what}", "new"], count),
+                one_of([harness, "run-merge", f"{name}; {what}", "old"], count), None) for name, what in described]
+
+
+def times_of(command):
+    """Seconds of each repeat on either side, by the row's name."""
+    times = collections.defaultdict(lambda: ([], []))
+    for line in lines_of(command):
+        name, *nanoseconds = line.split("\t")
+        for side, time in zip(times[name], nanoseconds):
+            side.append(float(time) * 1e-9)
+    return times
 
 
 def limit(harness, repeats, count):

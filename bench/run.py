@@ -1,5 +1,5 @@
 #!/usr/bin/env python3
-"""The benchmark: the proved engine and driving program beside those of oracle/.
+"""The benchmark: the proved engine and driving program beside those of oracle/, and the new merge beside the old.
 
 Builds what it needs, measures both sides in one run, and writes the tables into
 docs/BENCHMARK.md and the plot docs/benchmark.svg.
@@ -74,15 +74,16 @@ def driving_rows(program, options):
     return rows
 
 
-def table(rows, unit, scale):
+def table(rows, unit, scale, sides=("proved", "Rust")):
     """Rows as a table of Markdown."""
-    lines = [f"| row | what | proved ({unit}) | Rust ({unit}) | ratio | quartiles "
-             "| instructions, proved | ratio of instructions |", "|---" * 8 + "|"]
+    one, other = sides
+    lines = [f"| row | what | {one} ({unit}) | {other} ({unit}) | ratio | quartiles "
+             f"| instructions, {one} | ratio of instructions |", "|---" * 8 + "|"]
     for row in rows:
-        proved, rust = (statistics.median(times) * scale for times in (row.proved, row.rust))
+        first, second = (statistics.median(times) * scale for times in (row.one, row.other))
         low, high = measure.spread(row)
-        lines.append(f"| {row.name} | {row.what} | {proved:.1f} | {rust:.1f} | {measure.ratio(row):.2f} | "
-                     f"{low:.2f} to {high:.2f} | {row.proved_count:,.0f} | "
+        lines.append(f"| {row.name} | {row.what} | {first:.1f} | {second:.1f} | {measure.ratio(row):.2f} | "
+                     f"{low:.2f} to {high:.2f} | {row.one_count:,.0f} | "
                      f"{measure.count_ratio(row):.2f} |")
     return "\n".join(lines) + "\n"
 
@@ -93,12 +94,14 @@ def limit_line(limit):
             f"{limit.count:,.0f} instructions.\n")
 
 
-def report(engine, limit, driving, options):
+def report(engine, limit, merges, driving, options):
     """The part of the document between its marks."""
     text = (f"Made by `bench/run.py --repeats {options.repeats} --calls {options.calls} --lines {options.lines} "
             f"--seed {options.seed}`.\n\n"
             "### The engine, S 1,024 P 64 C 256 R 64 W 64 (time and instructions of one call)\n\n"
             + table(engine, "µs", 1e6) + "\n" + limit_line(limit)
+            + "\n### The new merge and the old, S 1,024 P 64 (time and instructions of one merge)\n\n"
+            + table(merges, "µs", 1e6, ("new", "old"))
             + "\n### The driving program (time of a whole input, instructions of a line)\n\n")
     if driving:
         return text + f"Inputs of {options.lines} lines each.\n\n" + table(driving, "ms", 1e3)
@@ -126,10 +129,11 @@ def main():
     build()
     engine = measure.engine_rows(HARNESS, options.repeats, options.calls)
     limit = measure.limit(HARNESS, options.repeats, options.calls)
+    merges = measure.merge_rows(HARNESS, options.repeats, options.calls)
     driving = driving_rows(os.path.abspath(options.program), options) if os.path.exists(options.program) else []
     if not driving:
         print(f"note: {options.program} is not there, so the driving programs are not compared")
-    figures = report(engine, limit, driving, options)
+    figures = report(engine, limit, merges, driving, options)
     document.replace_figures(DOCUMENT, figures)
     write_plot(engine, limit, driving)
     print(figures)

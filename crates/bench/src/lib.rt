@@ -1,7 +1,13 @@
 // The engine's operations, repeated on lent areas of any size. Each run gives the sum of the stores made.
+// The old merge and the new one too, of one Write bucket over the disk's bytes.
 use model::Sizes;
 use outcome::Outcome;
 use state::State;
+ghost use mathlib.Core.Path.{_≡_};
+ghost use Prim.Native.Nat.{_+_, _≤_};
+ghost use lib.ListN.{length};
+ghost use Rattle.model.specs.Sizes.{bucketSize};
+ghost use Rattle.merge.specs.Window.{Readable};
 
 // Never cuts: no operation makes as many stores.
 const PLENTY: usize = 65535;
@@ -299,5 +305,175 @@ pub extern "C" fn bench_recoveries(
     let z = sizes(s, b);
     let image = written(before, z, spread, data, flash, spare, disk);
     let run = recoveries(image, n, z, flash, spare, disk);
+    run.stores
+}
+
+fn log_at(
+    run: Run,
+    offset: usize,
+    data: &[u8],
+    flash: &mut [u8],
+    spare: &mut [u8],
+    disk: &mut [u8],
+) -> Run {
+    let o = write::write(run.state, 0, offset, data, PLENTY, flash, spare, disk);
+    and_then(run, o)
+}
+
+// Logs of back-end bucket 0, each so many bytes behind the one before. They go to cache bucket 0.
+fn logs(
+    from: Run,
+    n: usize,
+    apart: usize,
+    data: &[u8],
+    flash: &mut [u8],
+    spare: &mut [u8],
+    disk: &mut [u8],
+) -> Run {
+    let mut run = from;
+    let mut offset = 0;
+    let mut i = 0;
+    while i < n {
+        run = log_at(run, offset, data, flash, spare, disk);
+        offset = std::num::wrapping_add_usize(offset, apart);
+        i += 1;
+    }
+    run
+}
+
+// The logs on the formatted chip.
+fn logged(
+    n: usize,
+    z: Sizes,
+    apart: usize,
+    data: &[u8],
+    flash: &mut [u8],
+    spare: &mut [u8],
+    disk: &mut [u8],
+) -> Run {
+    let begun = formatted(z, flash, spare, disk);
+    logs(start(begun), n, apart, data, flash, spare, disk)
+}
+
+// By the old merge: the bytes under the logs, and then the logs, one after the other.
+fn merge_old(
+    z: Sizes,
+    from: usize,
+    flash: &[u8],
+    spare: &[u8],
+    under: &[u8],
+    window: &mut [u8],
+)
+    requires { ⌜ Readable z (now flash) (now spare) ⌝ }
+    requires { ⌜ length (now under) ≡ bucketSize z ⌝ }
+    requires { ⌜ from + length (now window) ≤ bucketSize z ⌝ }
+{
+    let end = from + window.len();
+    area::copy_over(window, &under[from..end]);
+    merge::merge_range(z, 0, from, flash, spare, window);
+}
+
+fn merge_new(
+    z: Sizes,
+    from: usize,
+    flash: &[u8],
+    spare: &[u8],
+    under: &[u8],
+    window: &mut [u8],
+)
+    requires { ⌜ Readable z (now flash) (now spare) ⌝ }
+    requires { ⌜ length (now under) ≡ bucketSize z ⌝ }
+    requires { ⌜ from + length (now window) ≤ bucketSize z ⌝ }
+{
+    let list = [0u8; 1];
+    overlay::lay_out(z, &list, from, flash, spare, under, window);
+}
+
+fn merges(
+    n: usize,
+    new: bool,
+    z: Sizes,
+    from: usize,
+    flash: &[u8],
+    spare: &[u8],
+    under: &[u8],
+    window: &mut [u8],
+)
+    requires { ⌜ Readable z (now flash) (now spare) ⌝ }
+    requires { ⌜ length (now under) ≡ bucketSize z ⌝ }
+    requires { ⌜ from + length (now window) ≤ bucketSize z ⌝ }
+{
+    let mut i = 0;
+    while i < n {
+        if new {
+            merge_new(z, from, flash, spare, under, window);
+        } else {
+            merge_old(z, from, flash, spare, under, window);
+        }
+        i += 1;
+    }
+}
+
+// Merges n times, if the chip passes numbers 1, 2 and 4 and the window lies within the bucket.
+fn merge_chip(
+    n: usize,
+    new: bool,
+    z: Sizes,
+    from: usize,
+    flash: &[u8],
+    spare: &[u8],
+    disk: &[u8],
+    window: &mut [u8],
+) {
+    if checks::image_refusal(z, flash, spare, disk) != 0 {
+        return;
+    }
+    let size = z.p * z.s;
+    if size < from {
+        return;
+    }
+    if size - from < window.len() {
+        return;
+    }
+    merges(n, new, z, from, flash, spare, &disk[..size], window);
+}
+
+// The window laid out n times over some logs of the data's length, by the old merge.
+#[no_mangle]
+pub extern "C" fn bench_old_merges(
+    n: usize,
+    s: usize,
+    count: usize,
+    apart: usize,
+    from: usize,
+    data: &[u8],
+    window: &mut [u8],
+    flash: &mut [u8],
+    spare: &mut [u8],
+    disk: &mut [u8],
+) -> usize {
+    let z = sizes(s, 1);
+    let run = logged(count, z, apart, data, flash, spare, disk);
+    merge_chip(n, false, z, from, flash, spare, disk, window);
+    run.stores
+}
+
+// By the new one.
+#[no_mangle]
+pub extern "C" fn bench_new_merges(
+    n: usize,
+    s: usize,
+    count: usize,
+    apart: usize,
+    from: usize,
+    data: &[u8],
+    window: &mut [u8],
+    flash: &mut [u8],
+    spare: &mut [u8],
+    disk: &mut [u8],
+) -> usize {
+    let z = sizes(s, 1);
+    let run = logged(count, z, apart, data, flash, spare, disk);
+    merge_chip(n, true, z, from, flash, spare, disk, window);
     run.stores
 }
