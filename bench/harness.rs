@@ -5,8 +5,8 @@
 //! PROVED RUST` in nanoseconds of a call for each repeat. `harness run ROW
 //! proved|rust COUNT` makes one run and times nothing, for a count of instructions.
 //! `harness limit REPEATS` and `harness pass COUNT` do the same for a bare pass,
-//! `harness merges`, `harness time-merges REPEATS` and `harness run-merge ROW
-//! old|new COUNT` for the old and the new merge, both proved.
+//! `harness time-merges REPEATS` and `harness run-merge ROW new|old COUNT` for
+//! the new merge and the old, both proved.
 
 use std::hint::black_box;
 
@@ -567,7 +567,10 @@ fn run_once(name: &str, engine: &str, count: usize) {
 
 fn merge_once(name: &str, which: &str, count: usize) {
     let merges = merges();
-    let merge = merges.iter().find(|merge| merge.name() == name).expect("a merge");
+    let merge = merges
+        .iter()
+        .find(|merge| merge.name() == name)
+        .expect("a merge");
     let side: Side<Merge> = if which == "old" { merge_old } else { merge_new };
     println!("{}", side(merge, count, &mut merge.areas()));
 }
@@ -580,21 +583,16 @@ fn main() {
             .iter()
             .for_each(|row| println!("{}\t{}\t{}", row.name, row.what, row.passes())),
         ["time", repeats] => time_rows(number(repeats)),
-        ["run", name, engine @ ("proved" | "rust"), count] => {
-            run_once(name, engine, number(count))
-        }
-        ["merges"] => merges()
-            .iter()
-            .for_each(|merge| println!("{}\t{}", merge.logs.what, merge.window.what)),
+        ["run", name, engine @ ("proved" | "rust"), count] => run_once(name, engine, number(count)),
         ["time-merges", repeats] => time_merges(number(repeats)),
-        ["run-merge", name, which @ ("old" | "new"), count] => {
+        ["run-merge", name, which @ ("new" | "old"), count] => {
             merge_once(name, which, number(count))
         }
         ["limit", repeats] => time_limit(number(repeats)),
         ["pass", count] => bare_passes(number(count), &erased_spare()),
         _ => panic!(
-            "usage: harness rows | time REPEATS | run ROW proved|rust COUNT | merges | time-merges REPEATS \
-             | run-merge ROW old|new COUNT | limit REPEATS | pass COUNT"
+            "usage: harness rows | time REPEATS | run ROW proved|rust COUNT | time-merges REPEATS \
+             | run-merge ROW new|old COUNT | limit REPEATS | pass COUNT"
         ),
     }
 }

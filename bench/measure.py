@@ -1,4 +1,4 @@
-"""Times and instruction counts of two sides, row by row: the proved engine and the Rust one, or the new merge and the old."""
+"""Times and instruction counts of two sides, row by row: proved engine and Rust one, new merge and old."""
 
 import collections
 import re
@@ -61,11 +61,10 @@ def engine_rows(harness, repeats, count):
 
 
 def merge_rows(harness, repeats, count):
-    """The new merge over the old, both proved."""
-    described = [line.split("\t") for line in lines_of([harness, "merges"])]
+    """The new merge over the old, both proved: logs and window are the row's name in the harness."""
     times = times_of([harness, "time-merges", str(repeats)])
-    return [Row(name, what, *times[f"{name}; {what}"], one_of([harness, "run-merge", f"{name}; {what}", "new"], count),
-                one_of([harness, "run-merge", f"{name}; {what}", "old"], count), None) for name, what in described]
+    return [Row(*name.split("; "), *times[name], one_of([harness, "run-merge", name, "new"], count),
+                one_of([harness, "run-merge", name, "old"], count), None) for name in times]
 
 
 def times_of(command):

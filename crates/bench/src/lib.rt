@@ -7,7 +7,7 @@ ghost use mathlib.Core.Path.{_≡_};
 ghost use Prim.Native.Nat.{_+_, _≤_};
 ghost use lib.ListN.{length};
 ghost use Rattle.model.specs.Sizes.{bucketSize};
-ghost use Rattle.merge.specs.Window.{Readable};
+ghost use Rattle.overlay.specs.Window.{Readable};
 
 // Never cuts: no operation makes as many stores.
 const PLENTY: usize = 65535;
@@ -389,6 +389,26 @@ fn merge_new(
     overlay::lay_out(z, &list, from, flash, spare, under, window);
 }
 
+fn merge_by(
+    new: bool,
+    z: Sizes,
+    from: usize,
+    flash: &[u8],
+    spare: &[u8],
+    under: &[u8],
+    window: &mut [u8],
+)
+    requires { ⌜ Readable z (now flash) (now spare) ⌝ }
+    requires { ⌜ length (now under) ≡ bucketSize z ⌝ }
+    requires { ⌜ from + length (now window) ≤ bucketSize z ⌝ }
+{
+    if new {
+        merge_new(z, from, flash, spare, under, window);
+    } else {
+        merge_old(z, from, flash, spare, under, window);
+    }
+}
+
 fn merges(
     n: usize,
     new: bool,
@@ -405,11 +425,7 @@ fn merges(
 {
     let mut i = 0;
     while i < n {
-        if new {
-            merge_new(z, from, flash, spare, under, window);
-        } else {
-            merge_old(z, from, flash, spare, under, window);
-        }
+        merge_by(new, z, from, flash, spare, under, window);
         i += 1;
     }
 }

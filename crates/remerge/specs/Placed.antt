@@ -7,7 +7,7 @@ use mathlib.Core.List.{List}
 use Rattle.lists.specs.Lists.{member}
 use Rattle.model.specs.declared.Sizes.{Sizes}
 use Rattle.model.specs.Sizes.{bucketSize}
-use Rattle.remerge.specs.declared.compare.Place.{Place}
+use Rattle.remerge.specs.declared.within.Place.{Place}
 
 -- the target is not listed, and is not the base
 pub record Placed (z : Sizes) (p : Place) (list : List ℕ) : Type 0 where

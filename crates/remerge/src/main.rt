@@ -3,11 +3,12 @@
 mod calls;
 mod compare;
 mod listed;
-mod new;
 mod old;
 mod random;
 mod sizes;
 mod tally;
+mod windows;
+mod within;
 
 use model::Sizes;
 use tally::Tally;
@@ -39,9 +40,9 @@ fn compare_sizes(z: Sizes) -> Tally
     let mut spare = [0u8; 8192];
     let mut disk = [0u8; 8192];
     let bucket = sizes::bucket(z);
-    let chip = sizes::smaller(z.c * bucket, 32768);
-    let tags = sizes::smaller(z.c * z.p * 16, 8192);
-    let end = sizes::smaller(z.b * bucket, 8192);
+    let chip = overlay::smaller(z.c * bucket, 32768);
+    let tags = overlay::smaller(z.c * z.p * 16, 8192);
+    let end = overlay::smaller(z.b * bucket, 8192);
     compare_chips(
         z,
         &mut flash[..chip],

@@ -8,7 +8,7 @@ ghost use lib.ListN.{length};
 ghost use Rattle.lists.specs.Lists.{all};
 ghost use Rattle.model.specs.Sizes.{bucketSize, body};
 ghost use Rattle.model.specs.State.{isBelow};
-ghost use Rattle.merge.specs.Window.{Readable};
+ghost use Rattle.overlay.specs.Window.{Readable};
 
 pub fn lay_over(z: Sizes, list: &[u8], from: usize, flash: &[u8], spare: &[u8], window: &mut [u8])
     requires { ⌜ Readable z (now flash) (now spare) ⌝ }

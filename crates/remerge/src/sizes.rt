@@ -38,9 +38,3 @@ pub fn bucket(z: Sizes) -> usize
 {
     z.p * z.s
 }
-
-pub fn smaller(a: usize, b: usize) -> usize
-    ensures { λ r. ⌜ (r ≤ a) × (r ≤ b) × (1 ≤ a → 1 ≤ b → 1 ≤ r) ⌝ }
-{
-    if a < b { a } else { b }
-}

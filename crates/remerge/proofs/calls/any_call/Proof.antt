@@ -14,7 +14,7 @@ smaller-requires : tie.Need-smaller-requires
 smaller-requires c κs = search needs
 
 drawn-requires : tie.Need-drawn-requires
-drawn-requires c κs = (c .before .before .before .before .before .before .pre, c .smaller .ensures .2 (c .before .bucket .ensures .1) (omega arith))
+drawn-requires c κs = (c .before .before .before .before .before .before .pre, omega (arith, c .smaller .ensures, c .before .bucket .ensures .1))
 
 bytes-requires : tie.Need-bytes-requires
 bytes-requires c κs = search needs

@@ -16,7 +16,7 @@ smaller-requires : tie.Need-smaller-requires
 smaller-requires c κs = search needs
 
 below-requires-2 : tie.Need-below-requires-2
-below-requires-2 c κs = c .smaller .ensures .2 (c .before .before .before .before .before .pre) (omega arith)
+below-requires-2 c κs = omega (arith, c .smaller .ensures)
 
 add-result : tie.Need-add-result
 add-result c = search needs

@@ -3,7 +3,7 @@ use mathlib.Core.Path.{_≡_}
 use native.Mathlib.Omega.{arith}
 use lib.ListN.{length}
 use Rattle.model.specs.Sizes.{body}
-use Rattle.rescue.proofs.Places.{listed}
+use Rattle.overlay.proofs.Found.{listed}
 use borrow.Author.Needs.{needs}
 use Rattle.remerge.proofs.old.lay_over.Statement.{statement}
 use Rattle.remerge.proofs.old.lay_over.Tie as tie

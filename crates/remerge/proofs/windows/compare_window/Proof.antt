@@ -1,8 +1,8 @@
 use lib.ListN.{length-take}
 use native.Mathlib.Omega.{arith}
 use borrow.Author.Needs.{needs}
-use Rattle.remerge.proofs.compare.compare_window.Statement.{statement}
-use Rattle.remerge.proofs.compare.compare_window.Tie as tie
+use Rattle.remerge.proofs.windows.compare_window.Statement.{statement}
+use Rattle.remerge.proofs.windows.compare_window.Tie as tie
 
 array-borrow-prefix-one : tie.Need-array-borrow-prefix-one
 array-borrow-prefix-one c = search needs

@@ -1,7 +1,7 @@
 use native.Mathlib.Omega.{arith}
 use borrow.Author.Needs.{needs}
-use Rattle.remerge.proofs.compare.compare_lent.Statement.{statement}
-use Rattle.remerge.proofs.compare.compare_lent.Tie as tie
+use Rattle.remerge.proofs.windows.compare_lent.Statement.{statement}
+use Rattle.remerge.proofs.windows.compare_lent.Tie as tie
 
 lay-out-requires : tie.Need-lay-out-requires
 lay-out-requires c κs = search needs

@@ -1,8 +1,8 @@
 use lib.ListN.{length-take}
 use native.Mathlib.Omega.{arith}
 use borrow.Author.Needs.{needs}
-use Rattle.remerge.proofs.compare.compare_place.Statement.{statement}
-use Rattle.remerge.proofs.compare.compare_place.Tie as tie
+use Rattle.remerge.proofs.within.compare_place.Statement.{statement}
+use Rattle.remerge.proofs.within.compare_place.Tie as tie
 
 empty-requires : tie.Need-empty-requires
 empty-requires c κs = search needs

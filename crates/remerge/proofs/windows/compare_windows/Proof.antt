@@ -1,7 +1,7 @@
 use borrow.Author.Needs.{needs}
 use Prim.Native.Nat.{_≤_, _-_}
-use Rattle.remerge.proofs.compare.compare_windows.Statement.{statement}
-use Rattle.remerge.proofs.compare.compare_windows.Tie as tie
+use Rattle.remerge.proofs.windows.compare_windows.Statement.{statement}
+use Rattle.remerge.proofs.windows.compare_windows.Tie as tie
 
 abbrev Inv-loop : tie.InvT-loop
 Inv-loop z list seed flash spare under tally₀ s₀ i₀ tally s i = i ≤ 6
