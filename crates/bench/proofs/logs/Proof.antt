@@ -1,55 +1,46 @@
+use native.Mathlib.Omega.{arith}
+use borrow.Author.Needs.{needs}
+use lib.ListN.{length}
+use mathlib.Core.Path.{_≡_}
+use Prim.Native.Nat.{_≤_, _-_}
 use Rattle.bench.proofs.logs.Statement.{statement}
 use Rattle.bench.proofs.logs.Tie as tie
-use Rattle.bench.proofs.logs.Reads as reads
-use Rattle.bench.proofs.logs.Lts as lts
-use Rattle.bench.proofs.log_at.Reads as log-at-reads
-use Rattle.std.proofs.num.wrapping_add_usize.Reads as wrapping-add-usize-reads
 
 abbrev Inv-loop : tie.InvT-loop
-Inv-loop n apart «data» flash₀ spare₀ disk₀ run₀ offset₀ i₀ flash spare disk run offset i = ?
+Inv-loop n apart «data» flash₀ spare₀ disk₀ run₀ offset₀ i₀ flash spare disk run offset i = (i ≤ n) × (length flash ≡ length flash₀) × (length spare ≡ length spare₀) × (length disk ≡ length disk₀)
 
 abbrev μ-loop : tie.MeasureT-loop
-μ-loop n apart «data» flash₀ spare₀ disk₀ run₀ offset₀ i₀ flash spare disk run offset i = ?
+μ-loop n apart «data» flash₀ spare₀ disk₀ run₀ offset₀ i₀ flash spare disk run offset i = n - i
 
--- src/lib.rt:336:5
 loop-holds : tie.Need-loop-holds Inv-loop μ-loop
-loop-holds c = ?
+loop-holds c = search needs
 
--- src/lib.rt:337:9
 log-at-requires : tie.Need-log-at-requires Inv-loop μ-loop
-log-at-requires c κs = ?
+log-at-requires c κs = search needs
 
--- src/lib.rt:338:9
 wrapping-add-usize-requires : tie.Need-wrapping-add-usize-requires Inv-loop μ-loop
-wrapping-add-usize-requires c κs = ?
+wrapping-add-usize-requires c κs = search needs
 
--- src/lib.rt:339:9
 add-i : tie.Need-add-i Inv-loop μ-loop
-add-i c = ?
+add-i c = omega (arith, c .before .before .before .before .before .before .before .before .before .before .before .loop-test .taken, c .before .before .before .before .before .before .before .before .before .before .before .before .before .before .before .before .before .good)
 
--- src/lib.rt:336:5
 loop-less : tie.Need-loop-less Inv-loop μ-loop
-loop-less c = ?
+loop-less c = search needs
 
--- src/lib.rt:336:5
 loop-again : tie.Need-loop-again Inv-loop μ-loop
-loop-again c = ?
+loop-again c = let l = c .before .before .before .before .before .before .before .before .before .before .before .before .loop in (omega (arith, c .before .before .before .before .before .before .before .before .before .before .before .loop-test .taken), omega (arith, c .before .before .before .before .before .before .flash .given, l .inv .1), omega (arith, c .before .before .before .before .spare .given, l .inv .2), omega (arith, c .before .before .disk .given, l .inv .3))
 
--- src/lib.rt:324:1
 same-length : tie.Need-same-length Inv-loop μ-loop
-same-length c = ?
+same-length c = search needs
 
--- src/lib.rt:324:1
 same-length-2 : tie.Need-same-length-2 Inv-loop μ-loop
-same-length-2 c = ?
+same-length-2 c = search needs
 
--- src/lib.rt:324:1
 same-length-3 : tie.Need-same-length-3 Inv-loop μ-loop
-same-length-3 c = ?
+same-length-3 c = search needs
 
--- src/lib.rt:324:1
 returns : tie.Need-returns Inv-loop μ-loop
-returns c = ?
+returns c = search needs
 
 pub logs-spec : {M : Type 1} → statement M
 logs-spec =

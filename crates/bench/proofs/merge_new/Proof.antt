@@ -1,23 +1,20 @@
+use Rattle.steps.proofs.Inside.{one-inside}
+use Rattle.model.specs.Sizes.{body}
+use native.Mathlib.Omega.{arith}
 use borrow.Author.Needs.{needs}
 use Rattle.bench.proofs.merge_new.Statement.{statement}
 use Rattle.bench.proofs.merge_new.Tie as tie
-use Rattle.bench.proofs.merge_new.Reads as reads
-use Rattle.bench.proofs.merge_new.Lts as lts
-use Rattle.overlay.proofs.lay_out.Reads as lay-out-reads
 
--- src/lib.rt:389:25
 slice-aggregate-lay-out : tie.Need-slice-aggregate-lay-out
 slice-aggregate-lay-out c = search needs
 
--- src/lib.rt:389:5
 lay-out-requires : tie.Need-lay-out-requires
-lay-out-requires c κs = ?
+unfolding body
+lay-out-requires c κs = let s = c .before .before .before .before .before .before in let p = s .pre in (p .0, (one-inside (body (s .args .z)) 0 (omega (arith, p .0 .limits .c-low)), (p .1 .0, p .1 .1)))
 
--- src/lib.rt:376:1
 same-length : tie.Need-same-length
 same-length c = search needs
 
--- src/lib.rt:376:1
 returns : tie.Need-returns
 returns c = search needs
 
