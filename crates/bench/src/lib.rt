@@ -356,14 +356,7 @@ fn logged(
 }
 
 // By the old merge: the bytes under the logs, and then the logs, one after the other.
-fn merge_old(
-    z: Sizes,
-    from: usize,
-    flash: &[u8],
-    spare: &[u8],
-    under: &[u8],
-    window: &mut [u8],
-)
+fn merge_old(z: Sizes, from: usize, flash: &[u8], spare: &[u8], under: &[u8], window: &mut [u8])
     requires { ⌜ Readable z (now flash) (now spare) ⌝ }
     requires { ⌜ length (now under) ≡ bucketSize z ⌝ }
     requires { ⌜ from + length (now window) ≤ bucketSize z ⌝ }
@@ -373,14 +366,7 @@ fn merge_old(
     merge::merge_range(z, 0, from, flash, spare, window);
 }
 
-fn merge_new(
-    z: Sizes,
-    from: usize,
-    flash: &[u8],
-    spare: &[u8],
-    under: &[u8],
-    window: &mut [u8],
-)
+fn merge_new(z: Sizes, from: usize, flash: &[u8], spare: &[u8], under: &[u8], window: &mut [u8])
     requires { ⌜ Readable z (now flash) (now spare) ⌝ }
     requires { ⌜ length (now under) ≡ bucketSize z ⌝ }
     requires { ⌜ from + length (now window) ≤ bucketSize z ⌝ }

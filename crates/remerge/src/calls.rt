@@ -83,8 +83,8 @@ fn make(
     let n = call.allowance;
     match kind {
         0 => drain::drain(s, n, flash, spare, disk),
-        1 => erasestep::erase_step(s, n, flash, spare, disk),
-        2 | 3 => read::read(s, call.b, call.offset, bytes, n, flash, spare, disk),
+        1 | 2 | 3 => erasestep::erase_step(s, n, flash, spare, disk),
+        4 | 5 => read::read(s, call.b, call.offset, bytes, n, flash, spare, disk),
         _ => write::write(s, call.b, call.offset, bytes, n, flash, spare, disk),
     }
 }

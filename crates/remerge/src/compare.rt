@@ -72,14 +72,7 @@ fn compare_listed(
     both.and(tally::seen(listed::abandoned(z, list, spare)))
 }
 
-fn compare_back(
-    z: Sizes,
-    b: usize,
-    seed: u32,
-    flash: &[u8],
-    spare: &[u8],
-    disk: &[u8],
-) -> Tally
+fn compare_back(z: Sizes, b: usize, seed: u32, flash: &[u8], spare: &[u8], disk: &[u8]) -> Tally
     requires { ⌜ Readable z (now flash) (now spare) ⌝ }
     requires { ⌜ length (now disk) ≡ diskSize z ⌝ }
     requires { ⌜ b < z .b ⌝ }

@@ -15,7 +15,7 @@ use tally::Tally;
 ghost use Rattle.model.proofs.Limits.{Limits};
 
 // Calls on each chip.
-const CALLS: usize = 100;
+const CALLS: usize = 300;
 
 // The calls, and after each the comparison.
 fn compare_chips(z: Sizes, flash: &mut [u8], spare: &mut [u8], disk: &mut [u8]) -> Tally
@@ -43,12 +43,7 @@ fn compare_sizes(z: Sizes) -> Tally
     let chip = overlay::smaller(z.c * bucket, 32768);
     let tags = overlay::smaller(z.c * z.p * 16, 8192);
     let end = overlay::smaller(z.b * bucket, 8192);
-    compare_chips(
-        z,
-        &mut flash[..chip],
-        &mut spare[..tags],
-        &mut disk[..end],
-    )
+    compare_chips(z, &mut flash[..chip], &mut spare[..tags], &mut disk[..end])
 }
 
 fn compare_row(row: [u16; 6]) -> Tally {

@@ -5,7 +5,7 @@ ghost use Prim.Native.Nat.{_≤_};
 ghost use Rattle.model.specs.Sizes.{bucketSize};
 ghost use Rattle.model.proofs.Limits.{Limits};
 
-pub const COUNT: usize = 9;
+pub const COUNT: usize = 10;
 
 // S, P, C, B, R, W.
 pub const SIZES: [[u16; 6]; COUNT] = [
@@ -17,6 +17,7 @@ pub const SIZES: [[u16; 6]; COUNT] = [
     [16, 4, 12, 4, 1, 2],
     [13, 16, 16, 2, 2, 2],
     [64, 8, 10, 3, 1, 2],
+    [1024, 2, 6, 2, 1, 1],
     [64, 64, 8, 2, 1, 2],
 ];
 

@@ -42,9 +42,9 @@ slice-aggregate-merges c = simp length-take (omega (arith, inside (c .before .be
 merges-requires : tie.Need-merges-requires
 unfolding bucketSize
 merges-requires c κs = let a = c .before .before .before .before .before .before .before .before .before .before .before .args in let o = opened (c .before .before .before .before .before) in (
-      record { limits = o .limits; flash-length = o .lent .flash-length; spare-length = o .lent .spare-length; well-formed = same-well-formed (a .z) (device (a .flash .now) (a .spare .now) (a .disk .now)) ∙ o .formed },
-      (simp length-take (omega (arith, inside (c .before .before .before .before .before))), omega (arith, c .before .before .before .if2 .left, c .before .before .if3 .left)),
-    )
+  record { limits = o .limits; flash-length = o .lent .flash-length; spare-length = o .lent .spare-length; well-formed = same-well-formed (a .z) (device (a .flash .now) (a .spare .now) (a .disk .now)) ∙ o .formed },
+  (simp length-take (omega (arith, inside (c .before .before .before .before .before))), omega (arith, c .before .before .before .if2 .left, c .before .before .if3 .left)),
+)
 
 same-length : tie.Need-same-length
 same-length c = search needs

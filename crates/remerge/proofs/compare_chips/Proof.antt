@@ -7,10 +7,10 @@ use Rattle.remerge.proofs.compare_chips.Statement.{statement}
 use Rattle.remerge.proofs.compare_chips.Tie as tie
 
 abbrev Inv-loop : tie.InvT-loop
-Inv-loop z flash₀ spare₀ disk₀ tally₀ run₀ i₀ flash spare disk tally run i = (i ≤ 100) × (length flash ≡ length flash₀) × (length spare ≡ length spare₀) × (length disk ≡ length disk₀)
+Inv-loop z flash₀ spare₀ disk₀ tally₀ run₀ i₀ flash spare disk tally run i = (i ≤ 300) × (length flash ≡ length flash₀) × (length spare ≡ length spare₀) × (length disk ≡ length disk₀)
 
 abbrev μ-loop : tie.MeasureT-loop
-μ-loop z flash₀ spare₀ disk₀ tally₀ run₀ i₀ flash spare disk tally run i = 100 - i
+μ-loop z flash₀ spare₀ disk₀ tally₀ run₀ i₀ flash spare disk tally run i = 300 - i
 
 empty-requires : tie.Need-empty-requires Inv-loop μ-loop
 empty-requires c κs = search needs

@@ -4,10 +4,10 @@ use Rattle.remerge.proofs.main.Statement.{statement}
 use Rattle.remerge.proofs.main.Tie as tie
 
 abbrev Inv-loop : tie.InvT-loop
-Inv-loop all₀ i₀ t3 all i = i ≤ 9
+Inv-loop all₀ i₀ t3 all i = i ≤ 10
 
 abbrev μ-loop : tie.MeasureT-loop
-μ-loop all₀ i₀ t3 all i = 9 - i
+μ-loop all₀ i₀ t3 all i = 10 - i
 
 empty-requires : tie.Need-empty-requires Inv-loop μ-loop
 empty-requires c κs = search needs

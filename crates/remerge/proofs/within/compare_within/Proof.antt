@@ -37,15 +37,24 @@ returns-2 c = search needs
 
 compare-place-requires : tie.Need-compare-place-requires
 compare-place-requires c κs = let p = c .before .before .before .before .before .before .before .before .before .before .before .before .before .before .pre in let target : c .before .before .before .before .before .before .next-unlisted .result < c .before .before .before .before .before .before .before .before .before .before .before .before .before .before .args .z .c = omega (arith, c .before .if1 .left) in (
-      p .0,
-      (p .1 .0, (p .1 .1 .0 .0, (record {
-        target = target;
-        base = p .1 .1 .0 .1;
-        length = omega (arith, c .before .before .before .window-of .ensures .0);
-        apart = λ e. c .if2 .left (sym e);
-        unlisted = c .before .before .before .before .before .before .next-unlisted .ensures target;
-      }, p .1 .1 .1))),
-    )
+  p .0,
+  (
+    p .1 .0,
+    (
+      p .1 .1 .0 .0,
+      (
+        record {
+          target = target;
+          base = p .1 .1 .0 .1;
+          length = omega (arith, c .before .before .before .window-of .ensures .0);
+          apart = λ e. c .if2 .left (sym e);
+          unlisted = c .before .before .before .before .before .before .next-unlisted .ensures target;
+        },
+        p .1 .1 .1,
+      ),
+    ),
+  ),
+)
 
 returns-3 : tie.Need-returns-3
 returns-3 c = search needs
