@@ -324,6 +324,8 @@ struct Window {
     what: &'static str,
     from: usize,
     length: usize,
+    /// Merges that are timed: many, since a repeat formats the chip too, and that takes as long as thousands.
+    count: usize,
 }
 
 const LOGS: [Logs; 7] = [
@@ -376,11 +378,13 @@ const WINDOWS: [Window; 2] = [
         what: "all 65,536 bytes",
         from: 0,
         length: 65_536,
+        count: 5_000,
     },
     Window {
         what: "1,024 bytes from 512 on",
         from: 512,
         length: 1024,
+        count: 50_000,
     },
 ];
 
@@ -396,9 +400,6 @@ fn merges() -> Vec<Merge> {
 }
 
 impl Merge {
-    /// Merges that are timed.
-    const COUNT: usize = 500;
-
     const SIZES: Row = Row {
         back_end_buckets: 1,
         ..LARGE
@@ -498,7 +499,7 @@ impl<R> Pair<'_, R> {
         self.repeat(&mut areas);
         for _ in 0..repeats {
             let [one, other] = self.repeat(&mut areas);
-            println!("{}\t{one:.0}\t{other:.0}", self.name);
+            println!("{}\t{one:.1}\t{other:.1}", self.name);
         }
     }
 }
@@ -520,7 +521,7 @@ fn time_merges(repeats: usize) {
         let pair = Pair {
             name: &merge.name(),
             row: &merge,
-            count: Merge::COUNT,
+            count: merge.window.count,
             sides: [merge_new, merge_old],
         };
         pair.time(repeats, [0, 1].map(|_| merge.areas()));

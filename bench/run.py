@@ -101,7 +101,7 @@ def report(engine, limit, merges, driving, options):
             "### The engine, S 1,024 P 64 C 256 R 64 W 64 (time and instructions of one call)\n\n"
             + table(engine, "µs", 1e6) + "\n" + limit_line(limit)
             + "\n### The new merge and the old, S 1,024 P 64 (time and instructions of one merge)\n\n"
-            + table(merges, "µs", 1e6, ("new", "old"))
+            + table(merges, "ns", 1e9, ("new", "old"))
             + "\n### The driving program (time of a whole input, instructions of a line)\n\n")
     if driving:
         return text + f"Inputs of {options.lines} lines each.\n\n" + table(driving, "ms", 1e3)
