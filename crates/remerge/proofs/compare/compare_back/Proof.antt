@@ -1,10 +1,7 @@
-use Rattle.model.specs.State.{isBelow}
-use Rattle.model.specs.Sizes.{body}
-use Rattle.lists.specs.Lists.{all}
 use Rattle.lists.proofs.Arrays.{take-used}
 use lib.ListN.{length}
 use lib.Seq.{length-take-le}
-use mathlib.Core.Path.{_≡_, sym, ap, _∙_}
+use mathlib.Core.Path.{_≡_, sym}
 use native.Mathlib.Omega.{arith}
 use borrow.Author.Needs.{needs}
 use Rattle.remerge.proofs.compare.compare_back.Statement.{statement}

@@ -1,7 +1,6 @@
 use Rattle.geometry.proofs.Places.{nth-inside}
 use Rattle.model.specs.Sizes.{flashSize, diskSize}
 use lib.ListN.{length}
-use native.Mathlib.Omega.{arith}
 use mathlib.Core.Logic.{inl, inr}
 use mathlib.Core.Path.{_≡_, refl, sym, ap, _∙_}
 use Prim.Native.Nat.{_*_}
