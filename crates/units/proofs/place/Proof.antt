@@ -5,7 +5,7 @@ use Rattle.model.specs.Sizes.{bucketSize}
 use native.Mathlib.Omega.{arith}
 use native.Mathlib.Nat.{mul-assoc}
 use mathlib.Core.Path.{_≡_}
-use Prim.Native.Nat.{_+_, _*_, _≤_, _<_}
+use Prim.Native.Nat.{_+_, _*_, _<_}
 use borrow.Author.Needs.{needs}
 use Rattle.units.proofs.place.Statement.{statement}
 use Rattle.units.proofs.place.Tie as tie
