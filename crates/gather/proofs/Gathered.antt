@@ -5,9 +5,7 @@ use mathlib.Core.Path.{_≡_, refl, sym, ap, _∙_}
 use mathlib.Core.Bool.{Bool, true, false}
 use mathlib.Core.List.{List, [], _∷_}
 use native.Mathlib.Nat.{le-refl}
-use native.Mathlib.Omega.{arith}
 use lib.ListN.{length}
-use lib.Seq.{take-all}
 use borrow.Author.Tests.{lt-ltb}
 use Rattle.lists.specs.Lists.{if_then_else_, all, part}
 use Rattle.model.specs.declared.Sizes.{Sizes}
@@ -76,12 +74,6 @@ module _ {s : State} {b : ℕ} {flash spare disk : List ℕ} (sources : Sources 
           ap length (sym (same-merge (s .sizes) (device flash spare disk) (cacheOf b (s .writes)) base))
           ∙ merged-length readable (sources .write) base base-size (s .sizes .p) (le-refl (s .sizes .p))
       at false = base-size
-
-  -- a window of a bucket's size shows them all
-  pub all-shown : (n : ℕ) → n ≡ bucketSize (s .sizes)
-      → part (merged (s .sizes) s (device flash spare disk) b) 0 n ≡ merged (s .sizes) s (device flash spare disk) b
-  unfolding part
-  all-shown n h = take-all n (merged (s .sizes) s (device flash spare disk) b) (omega (arith, merged-size))
 
 -- the logs of the Write bucket, if there is one, lie over the base
 pub merged-all : (z : Sizes) (s : State) (d : Device) (b : ℕ) → merged z s d b ≡ mergeAll z d (cachesOf b (s .writes)) (baseBytes z s d b)
