@@ -51,10 +51,6 @@ pub length-part : (l : List ℕ) (i n : ℕ) → length (part l i n) ≡ min n (
 unfolding part
 length-part l i n = length-take n (drop i l) ∙ ap (min n) (length-drop i l)
 
-pub whole-part : (l : List ℕ) (a m n : ℕ) → n ≡ m → part (part l a m) 0 n ≡ part l a m
-unfolding part
-whole-part l a m n e = take-all n (take m (drop a l)) (rw (length-take m (drop a l)) (omega arith))
-
 pub getD-beyond : (l : List ℕ) (i n k : ℕ) → n ≤ k → getD (part l i n) k 0 ≡ 0
 getD-beyond l i n k h = List·getD-eq-default (part l i n) 0 (omega (arith, length-part l i n))
 

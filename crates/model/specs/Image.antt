@@ -109,6 +109,6 @@ module _ (z : Sizes) where
   mergeTo d c base (suc k) =
       if endsLog d c k then splice (mergeTo d c base k) (offset (tagOf z d c k)) (logBytes d c k) else mergeTo d c base k
 
-  -- "merge its complete logs in order over" a base
+  -- "merge its complete logs in order over" a base; "what the merge promises of its result", however each byte gets there
   unfoldable pub merge : Device → ℕ → List ℕ → List ℕ
   merge d c base = mergeTo d c base (z .p)

@@ -62,6 +62,7 @@ module _ (z : Sizes) (d : Device) where
   unfoldable pub isOldCopy : ℕ → Bool
   isOldCopy c = isCopy z d c && not (isChosen c)
 
+  -- the logs of several Write buckets, one bucket after the other
   unfoldable pub mergeAll : List ℕ → List ℕ → List ℕ
   mergeAll [] base = base
   mergeAll (w ∷ ws) base = mergeAll ws (merge z d w base)
