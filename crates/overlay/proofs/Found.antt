@@ -18,7 +18,7 @@ use Rattle.model.specs.declared.Sizes.{Sizes}
 use Rattle.model.specs.Sizes.{Device, bucketSize, flashSize, body}
 use Rattle.model.specs.Spare.{blank}
 use Rattle.model.specs.Stores.{tagOf}
-use Rattle.model.specs.Image.{endsLog, mergeTo, merge}
+use Rattle.model.specs.Image.{endsLog, mergeTo, merge, blanks}
 use Rattle.model.specs.State.{isBelow}
 use Rattle.model.specs.Recover.{mergeAll}
 use Rattle.model.proofs.Limits.{on-chip}
@@ -29,8 +29,8 @@ use Rattle.image.specs.Chip.{spareOnly}
 use Rattle.overlay.specs.declared.Extent.{Extent}
 use Rattle.overlay.specs.declared.Run.{Run}
 use Rattle.overlay.specs.Window.{chip, Tagged, Readable, LogPlace, logPart}
-use Rattle.overlay.specs.Runs.{Lays, Runs}
-use Rattle.overlay.proofs.Logs.{in-flash, merged-length, log-place, log-laid, ends-last, log-lacking}
+use Rattle.overlay.specs.Runs.{Lays, EndsBy, Runs}
+use Rattle.overlay.proofs.Logs.{in-flash, merged-length, log-place, log-laid, ends-last, log-lacking, merged-programmed}
 
 -- ---- one page
 
@@ -171,6 +171,19 @@ module _ {z : Sizes} {spare : List ℕ} {c x stop end k : ℕ} {e : Extent} (som
             let n' : i < end = rw (le-ltb x (e .low) (o .0)) at n in
             below flash base r s i l n' ∙ lays .beside flash base r s i (inr (omega (arith, o .1)))
 
+-- no log ends behind the pages looked at
+pub below-end : {z : Sizes} {spare : List ℕ} {c n : ℕ} (x end : ℕ) → EndsBy z spare c n → Below z spare c x end n
+below-end x end ends flash base r s i l m = ap (λ (w : List ℕ). getD w i 0) (sym (ends .rest flash base r))
+
+ends-all : (z : Sizes) (spare : List ℕ) (c : ℕ) → EndsBy z spare c (z .p)
+ends-all z spare c = record { most = le-refl (z .p); rest = λ flash base r. refl }
+
+pub ends-programmed : {z : Sizes} {spare : List ℕ} {c n : ℕ} → c < body z → n ≡ z .p - blanks z (spareOnly spare) c → EndsBy z spare c n
+ends-programmed {z} {spare} {c} {n} bucket e = record {
+  most = omega (arith, e);
+  rest = λ flash base r. ap (mergeTo z (chip flash spare) c base) e ∙ merged-programmed r bucket base;
+}
+
 -- no page is left
 pub run-none : {z : Sizes} {spare : List ℕ} {c x stop end : ℕ} → x < end → end ≤ stop → Below z spare c x end 0 → Runs z spare (c ∷ []) x stop (record { covered = false; at = 0; end = end })
 unfolding mergeAll merge mergeTo
@@ -253,3 +266,12 @@ module _ {z : Sizes} {spare : List ℕ} (list : List ℕ) (below : all (isBelow 
 pub list-none : {z : Sizes} {spare list : List ℕ} {x stop end : ℕ} → x < end → end ≤ stop → Among z spare list x end 0 → Runs z spare list x stop (record { covered = false; at = 0; end = end })
 unfolding mergeAll
 list-none some most among = record { some = some; most = most; inside = λ t. absurd (true≢false (sym t)); over = λ t. absurd (true≢false (sym t)); beside = λ t. among }
+
+-- the pages to be looked at of each listed bucket
+pub ends-at : {z : Sizes} {spare : List ℕ} {newest : ℕ} (list : List ℕ) → (0 < length list → EndsBy z spare (getD list (length list - 1) 0) newest) → (j : ℕ) → j < length list
+    → EndsBy z spare (getD list j 0) (if eqb j (length list - 1) then newest else z .p)
+ends-at {z} {spare} {newest} list last j h = go (true-or-false (eqb j (length list - 1)))
+  where
+    go : (eqb j (length list - 1) ≡ true) ⊎ (eqb j (length list - 1) ≡ false) → EndsBy z spare (getD list j 0) (if eqb j (length list - 1) then newest else z .p)
+    go (inl e) = rw e (rw (← eqb-true j (length list - 1) e) at (last (omega arith)))
+    go (inr e) = rw e (ends-all z spare (getD list j 0))

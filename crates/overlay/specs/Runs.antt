@@ -29,6 +29,11 @@ pub record Lays (z : Sizes) (spare : List ℕ) (c k : ℕ) (e : Extent) : Type 0
   pub beside : (flash base : List ℕ) → Readable z flash spare → length base ≡ bucketSize z → (i : ℕ) → (i < e .low) ⊎ (e .high ≤ i)
       → getD (mergeTo z (chip flash spare) c base (k + 1)) i 0 ≡ getD (mergeTo z (chip flash spare) c base k) i 0
 
+-- no log ends in the pages of the bucket c from page n on
+pub record EndsBy (z : Sizes) (spare : List ℕ) (c n : ℕ) : Type 0 where
+  pub most : n ≤ z .p
+  pub rest : (flash base : List ℕ) → Readable z flash spare → mergeTo z (chip flash spare) c base n ≡ mergeTo z (chip flash spare) c base (z .p)
+
 -- the bytes from x up to the run's end: those that the logs of the listed buckets lay lie in one of these buckets, or they lay none
 pub record Runs (z : Sizes) (spare list : List ℕ) (x stop : ℕ) (r : Run) : Type 0 where
   pub some : x < r .end

@@ -6,14 +6,14 @@ ghost use mathlib.Core.Bool.{true, _&&_};
 ghost use mathlib.Core.Logic.{_⊎_};
 ghost use mathlib.Core.List.{List, [], _∷_};
 ghost use Prim.Native.Nat.{ℕ, _+_, _-_, _*_, _≤_, _<_, min};
-ghost use lib.ListN.{length, take};
-ghost use lib.Dec.{leb, ltb};
+ghost use lib.ListN.{length, take, getD};
+ghost use lib.Dec.{leb, ltb, eqb};
 ghost use Rattle.lists.specs.Lists.{if_then_else_, all, splice, part};
 ghost use Rattle.model.specs.Sizes.{bucketSize, body};
 ghost use Rattle.model.specs.State.{isBelow};
 ghost use Rattle.model.specs.Recover.{mergeAll};
 ghost use Rattle.overlay.specs.Window.{Turns, Tagged, Readable, chip};
-ghost use Rattle.overlay.specs.Runs.{Lays, Runs, Laid, lentOver, Moves, movedOver, Shows, beneath, Aside};
+ghost use Rattle.overlay.specs.Runs.{Lays, EndsBy, Runs, Laid, lentOver, Moves, movedOver, Shows, beneath, Aside};
 
 // The bytes of the whole that a log covers, from `low` up to `high`, and where they lie in the flash.
 pub struct Extent {
@@ -72,22 +72,26 @@ fn shortened(x: usize, end: usize, log: Extent) -> usize
     end
 }
 
-// The run from x on, of the logs of one bucket. They are looked at from the last on: the first that covers x is the last that does.
-fn run_in(z: Sizes, c: usize, x: usize, stop: usize, spare: &[u8]) -> Run
+// The run from x on, of the logs in the first pages of one bucket, where the others end none. They are looked at from the last on: the first that
+// covers x is the last that does.
+fn run_in(z: Sizes, c: usize, pages: usize, x: usize, stop: usize, spare: &[u8]) -> Run
     requires { ⌜ Tagged z (now spare) ⌝ }
     requires { ⌜ (c < body z) × (x < stop) × (stop ≤ bucketSize z) ⌝ }
+    requires { ⌜ EndsBy z (now spare) c pages ⌝ }
     ensures { λ r. ⌜ Runs z (now (spare .entry)) (c ∷ []) x stop r ⌝ }
 {
     let mut end = stop;
-    let mut k = z.p;
+    let mut k = pages;
     while 0 < k {
         k -= 1;
         let log = log_at(z, c, k, spare);
         if covers(log, x) {
+            let at = log.at + (x - log.low);
+            let last = smaller(end, log.high);
             return Run {
                 covered: true,
-                at: log.at + (x - log.low),
-                end: smaller(end, log.high),
+                at,
+                end: last,
             };
         }
         end = shortened(x, end, log);
@@ -99,10 +103,32 @@ fn run_in(z: Sizes, c: usize, x: usize, stop: usize, spare: &[u8]) -> Run
     }
 }
 
-// The run from x on, of the logs of all listed buckets, the newest last.
-fn run_at(z: Sizes, list: &[u8], x: usize, stop: usize, spare: &[u8]) -> Run
+// How many pages of the newest listed bucket are programmed. Most lists have one bucket, and most of its pages may be blank.
+fn newest_pages(z: Sizes, list: &[u8], spare: &[u8]) -> usize
     requires { ⌜ Tagged z (now spare) ⌝ }
     requires { ⌜ all (isBelow (body z)) (now list) ≡ true ⌝ }
+    ensures { λ r. ⌜ (0 < length (now (list .entry)) → EndsBy z (now (spare .entry)) (getD (now (list .entry)) (length (now (list .entry)) - 1) 0) r) ⌝ }
+{
+    let n = list.len();
+    if n == 0 {
+        return 0;
+    }
+    image::programmed(z, list[n - 1] as usize, spare)
+}
+
+// The pages to be looked at of the listed bucket j: those programmed, if it is the newest.
+fn pages_at(z: Sizes, j: usize, count: usize, newest: usize) -> usize
+    requires { ⌜ j < count ⌝ }
+    ensures { λ r. ⌜ r ≡ (if eqb j (count - 1) then newest else z .p) ⌝ }
+{
+    if j == count - 1 { newest } else { z.p }
+}
+
+// The run from x on, of the logs of all listed buckets, the newest last.
+fn run_at(z: Sizes, list: &[u8], newest: usize, x: usize, stop: usize, spare: &[u8]) -> Run
+    requires { ⌜ Tagged z (now spare) ⌝ }
+    requires { ⌜ all (isBelow (body z)) (now list) ≡ true ⌝ }
+    requires { ⌜ (0 < length (now list) → EndsBy z (now spare) (getD (now list) (length (now list) - 1) 0) newest) ⌝ }
     requires { ⌜ (x < stop) × (stop ≤ bucketSize z) ⌝ }
     ensures { λ r. ⌜ Runs z (now (spare .entry)) (now (list .entry)) x stop r ⌝ }
 {
@@ -110,7 +136,8 @@ fn run_at(z: Sizes, list: &[u8], x: usize, stop: usize, spare: &[u8]) -> Run
     let mut j = list.len();
     while 0 < j {
         j -= 1;
-        let run = run_in(z, list[j] as usize, x, end, spare);
+        let pages = pages_at(z, j, list.len(), newest);
+        let run = run_in(z, list[j] as usize, pages, x, end, spare);
         if run.covered {
             return run;
         }
@@ -157,9 +184,10 @@ fn lay_runs(
     ensures { λ _. ⌜ ((whole : List ℕ) → length whole ≡ bucketSize z → Shows whole (now (under .entry)) from (now (window .entry)) → now (window .exit) ≡ part (mergeAll z (chip (now (flash .entry)) (now (spare .entry))) (now (list .entry)) whole) from (length (now (window .entry)))) ⌝ }
 {
     let stop = from + window.len();
+    let newest = newest_pages(z, list, spare);
     let mut x = from;
     while x < stop {
-        let run = run_at(z, list, x, stop, spare);
+        let run = run_at(z, list, newest, x, stop, spare);
         lay_run(run, x, from, flash, under, window);
         x = run.end;
     }
@@ -232,9 +260,10 @@ pub fn lay_within(
     let size = z.p * z.s;
     let to = target * size;
     let under_at = base * size;
+    let newest = newest_pages(z, list, spare);
     let mut x = 0;
     while x < n {
-        let run = run_at(z, list, x, n, spare);
+        let run = run_at(z, list, newest, x, n, spare);
         move_run(run, x, under_at, to, under, flash);
         x = run.end;
     }

@@ -17,12 +17,12 @@ use Rattle.overlay.proofs.lay_runs.Statement.{statement}
 use Rattle.overlay.proofs.lay_runs.Tie as tie
 
 abbrev Inv-loop : tie.InvT-loop
-Inv-loop z list from flash spare under window₀ stop x₀ window x =
+Inv-loop z list from flash spare under window₀ stop newest x₀ window x =
     (from ≤ x) × (x ≤ stop) × (stop ≡ from + length window₀) × (length window ≡ length window₀)
     × ((whole : List ℕ) → length whole ≡ bucketSize z → Shows whole under from window₀ → window ≡ splice window₀ 0 (part (mergeAll z (chip flash spare) list whole) from (x - from)))
 
 abbrev μ-loop : tie.MeasureT-loop
-μ-loop z list from flash spare under window₀ stop x₀ window x = stop - x
+μ-loop z list from flash spare under window₀ stop newest x₀ window x = stop - x
 
 -- the window lies within a bucket
 small : (c : tie.Start Inv-loop μ-loop) → c .args .«from» + length (c .args .window .now) ≤ 65536
@@ -40,25 +40,28 @@ lent-run c end h = go (c .pre .1 .1 .0)
 add-stop : tie.Need-add-stop Inv-loop μ-loop
 add-stop c = omega (arith, small (c .before .before .before .before .before))
 
+newest-pages-requires : tie.Need-newest-pages-requires Inv-loop μ-loop
+newest-pages-requires c κs = let start = c .before .before .before .before .before in (tagged-of (start .pre .0), start .pre .1 .0)
+
 loop-holds : tie.Need-loop-holds Inv-loop μ-loop
 unfolding part
-loop-holds c = let a = c .before .before .before .before .before .args in
+loop-holds c = let a = c .before .before .before .before .before .before .args in
     let none : a .«from» - a .«from» ≡ 0 = omega arith in
     (le-refl (a .«from»), omega arith, refl, refl, λ whole size shows. rw none (sym (splice-none (a .window .now) 0)))
 
 run-at-requires : tie.Need-run-at-requires Inv-loop μ-loop
-run-at-requires c κs = let start = c .before .before .before .before .before .before .before in let l = c .before .loop in
-    (tagged-of (start .pre .0), (start .pre .1 .0, (c .loop-test .taken, omega (arith, l .inv .2, start .pre .1 .1 .1))))
+run-at-requires c κs = let start = c .before .before .before .before .before .before .before .before in let l = c .before .loop in
+    (tagged-of (start .pre .0), (start .pre .1 .0, (c .before .before .newest-pages .ensures, (c .loop-test .taken, omega (arith, l .inv .2, start .pre .1 .1 .1)))))
 
 lay-run-requires : tie.Need-lay-run-requires Inv-loop μ-loop
-lay-run-requires c κs = let start = c .before .before .before .before .before .before .before .before .before in let l = c .before .before .before .loop in let runs = c .before .run-at .ensures in
+lay-run-requires c κs = let start = c .before .before .before .before .before .before .before .before .before .before in let l = c .before .before .before .loop in let runs = c .before .run-at .ensures in
     record { first = l .inv .0; some = runs .some; last = omega (arith, runs .most, l .inv .2, l .inv .3); stored = stored (start .pre .0) runs; lent = lent-run start (c .before .run-at .result .end) (omega (arith, runs .most, l .inv .2, start .pre .1 .1 .1)) }
 
 loop-less : tie.Need-loop-less Inv-loop μ-loop
 loop-less c = let runs = c .before .before .before .before .run-at .ensures in omega (arith, runs .some, runs .most)
 
 loop-again : tie.Need-loop-again Inv-loop μ-loop
-loop-again c = let start = c .before .before .before .before .before .before .before .before .before .before .before .before in let l = c .before .before .before .before .before .before .loop in let runs = c .before .before .before .before .run-at .ensures in
+loop-again c = let start = c .before .before .before .before .before .before .before .before .before .before .before .before .before in let l = c .before .before .before .before .before .before .loop in let runs = c .before .before .before .before .run-at .ensures in
     let a = start .args in (
       omega (arith, runs .some, l .inv .0),
       runs .most,
@@ -71,7 +74,7 @@ same-length : tie.Need-same-length Inv-loop μ-loop
 same-length c = let l = c .before .loop in omega (arith, l .inv .3)
 
 returns : tie.Need-returns Inv-loop μ-loop
-returns c = let start = c .before .before .before .before .before .before .before in let l = c .before .loop in let a = start .args in
+returns c = let start = c .before .before .before .before .before .before .before .before in let l = c .before .loop in let a = start .args in
     λ whole size shows.
     let all : l .x - a .«from» ≡ length (a .window .now) = omega (arith, c .loop-test .left, l .inv .0, l .inv .1, l .inv .2) in
     l .inv .4 whole size shows ∙ rw all (lent-all (start .pre .0) (a .list .now) (start .pre .1 .0) whole size (a .«from») (start .pre .1 .1 .1) shows)
@@ -83,6 +86,7 @@ lay-runs-spec =
     Inv-loop
     μ-loop
     add-stop
+    newest-pages-requires
     loop-holds
     run-at-requires
     lay-run-requires

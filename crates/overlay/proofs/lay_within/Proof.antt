@@ -15,12 +15,12 @@ use Rattle.overlay.proofs.lay_within.Statement.{statement}
 use Rattle.overlay.proofs.lay_within.Tie as tie
 
 abbrev Inv-loop : tie.InvT-loop
-Inv-loop z list base under target n flash₀ spare size to under-at x₀ flash x =
+Inv-loop z list base under target n flash₀ spare size to under-at newest x₀ flash x =
     (x ≤ n) × (length flash ≡ length flash₀)
     × (flash ≡ splice flash₀ (target * bucketSize z) (part (mergeAll z (chip flash₀ spare) list (beneath z flash₀ base under)) 0 x))
 
 abbrev μ-loop : tie.MeasureT-loop
-μ-loop z list base under target n flash₀ spare size to under-at x₀ flash x = n - x
+μ-loop z list base under target n flash₀ spare size to under-at newest x₀ flash x = n - x
 
 mul-size : tie.Need-mul-size Inv-loop μ-loop
 mul-size c = omega (arith, products (c .before .before .before .before .before .pre .0 .limits) .bucket)
@@ -31,16 +31,19 @@ mul-to c = let start = c .before .before .before .before .before in omega (arith
 mul-under-at : tie.Need-mul-under-at Inv-loop μ-loop
 mul-under-at c = let start = c .before .before .before .before .before in omega (arith, nth-inside (start .args .base) (start .args .z .c) (start .args .z .p * start .args .z .s) (start .pre .1 .1 .0 .1), products (start .pre .0 .limits) .flash)
 
+newest-pages-requires : tie.Need-newest-pages-requires Inv-loop μ-loop
+newest-pages-requires c κs = let start = c .before .before .before .before .before in (tagged-of (start .pre .0), start .pre .1 .0)
+
 loop-holds : tie.Need-loop-holds Inv-loop μ-loop
 unfolding part
-loop-holds c = let a = c .before .before .before .before .before .args in (omega arith, refl, sym (splice-none (a .flash .now) (a .target * bucketSize (a .z))))
+loop-holds c = let a = c .before .before .before .before .before .before .args in (omega arith, refl, sym (splice-none (a .flash .now) (a .target * bucketSize (a .z))))
 
 run-at-requires : tie.Need-run-at-requires Inv-loop μ-loop
-run-at-requires c κs = let start = c .before .before .before .before .before .before .before in (tagged-of (start .pre .0), (start .pre .1 .0, (c .loop-test .taken, start .pre .1 .1 .0 .2)))
+run-at-requires c κs = let start = c .before .before .before .before .before .before .before .before in (tagged-of (start .pre .0), (start .pre .1 .0, (c .before .before .newest-pages .ensures, (c .loop-test .taken, start .pre .1 .1 .0 .2))))
 
 move-run-requires : tie.Need-move-run-requires Inv-loop μ-loop
 unfolding bucketSize
-move-run-requires c κs = let start = c .before .before .before .before .before .before .before .before .before in let p = start .pre in let l = c .before .before .before .loop in
+move-run-requires c κs = let start = c .before .before .before .before .before .before .before .before .before .before in let p = start .pre in let l = c .before .before .before .loop in
     moves (p .0) (start .args .list .now) (p .1 .0) (start .args .under .now) (p .1 .1 .0 .0) (p .1 .1 .0 .1) (p .1 .1 .0 .2) (p .1 .1 .1) (c .before .run-at .ensures) (l .flash) (l .inv .1)
 
 loop-less : tie.Need-loop-less Inv-loop μ-loop
@@ -48,7 +51,7 @@ loop-less c = let runs = c .before .before .before .before .run-at .ensures in o
 
 loop-again : tie.Need-loop-again Inv-loop μ-loop
 unfolding bucketSize
-loop-again c = let start = c .before .before .before .before .before .before .before .before .before .before .before .before in let p = start .pre in let l = c .before .before .before .before .before .before .loop in let runs = c .before .before .before .before .run-at .ensures in (
+loop-again c = let start = c .before .before .before .before .before .before .before .before .before .before .before .before .before in let p = start .pre in let l = c .before .before .before .before .before .before .loop in let runs = c .before .before .before .before .run-at .ensures in (
   runs .most,
   omega (arith, c .before .flash .given, l .inv .1),
   rw (c .before .before .move-run .ensures) (moved-step (p .0) (start .args .list .now) (p .1 .0) (start .args .under .now) (p .1 .1 .0 .0) (p .1 .1 .0 .1) (p .1 .1 .0 .2) (p .1 .1 .1) runs (l .inv .2)),
@@ -60,7 +63,7 @@ same-length c = let l = c .before .loop in omega (arith, l .inv .1)
 returns : tie.Need-returns Inv-loop μ-loop
 unfolding part
 returns c = let l = c .before .loop in
-    let all : l .x ≡ c .before .before .before .before .before .before .before .args .n = omega (arith, c .loop-test .left, l .inv .0) in
+    let all : l .x ≡ c .before .before .before .before .before .before .before .before .args .n = omega (arith, c .loop-test .left, l .inv .0) in
     rw (← all) (l .inv .2)
 
 pub lay-within-spec : {M : Type 1} → statement M
@@ -72,6 +75,7 @@ lay-within-spec =
     mul-size
     mul-to
     mul-under-at
+    newest-pages-requires
     loop-holds
     run-at-requires
     move-run-requires

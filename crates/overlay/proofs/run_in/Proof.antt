@@ -1,5 +1,5 @@
 use borrow.Author.Needs.{needs}
-use Rattle.overlay.proofs.Found.{covered-low, covered-high, Below, run-found, shortened-some, shortened-most, shortened-below, run-none}
+use Rattle.overlay.proofs.Found.{covered-low, covered-high, Below, below-end, run-found, shortened-some, shortened-most, shortened-below, run-none}
 use Rattle.geometry.proofs.Places.{nth-inside}
 use Rattle.geometry.proofs.Passed.{products}
 use Rattle.model.specs.Sizes.{bucketSize}
@@ -11,29 +11,30 @@ use Rattle.overlay.proofs.run_in.Statement.{statement}
 use Rattle.overlay.proofs.run_in.Tie as tie
 
 abbrev Inv-loop : tie.InvT-loop
-Inv-loop z c x stop spare end₀ k₀ end k = (k ≤ z .p) × (x < end) × (end ≤ stop) × Below z spare c x end k
+Inv-loop z c pages x stop spare end₀ k₀ end k = (k ≤ z .p) × (x < end) × (end ≤ stop) × Below z spare c x end k
 
 abbrev μ-loop : tie.MeasureT-loop
-μ-loop z c x stop spare end₀ k₀ end k = k
+μ-loop z c pages x stop spare end₀ k₀ end k = k
 
 loop-holds : tie.Need-loop-holds Inv-loop μ-loop
-loop-holds c = (le-refl (c .before .args .z .p), c .before .pre .1 .1, le-refl (c .before .args .stop), λ flash base r s i l m. refl)
+loop-holds c = let start = c .before in
+    (start .pre .1 .1 .most, start .pre .1 .0 .1, le-refl (start .args .stop), below-end (start .args .x) (start .args .stop) (start .pre .1 .1))
 
 sub-k : tie.Need-sub-k Inv-loop μ-loop
 sub-k c = omega (arith, c .loop-test .taken)
 
 log-at-requires : tie.Need-log-at-requires Inv-loop μ-loop
-log-at-requires c κs = let start = c .before .before .before in (start .pre .0, (start .pre .1 .0, omega (arith, c .loop-test .taken, c .before .loop .inv .0)))
+log-at-requires c κs = let start = c .before .before .before in (start .pre .0, (start .pre .1 .0 .0, omega (arith, c .loop-test .taken, c .before .loop .inv .0)))
 
 covers-requires : tie.Need-covers-requires Inv-loop μ-loop
 covers-requires c κs = search needs
 
-sub-t11 : tie.Need-sub-t11 Inv-loop μ-loop
-sub-t11 c = covered-low (c .before .before .before .log-at .result) (c .before .before .before .before .before .before .before .args .x) (sym (c .before .before .covers .ensures) ∙ c .before .if1 .taken)
+sub-at : tie.Need-sub-at Inv-loop μ-loop
+sub-at c = covered-low (c .before .before .before .log-at .result) (c .before .before .before .before .before .before .before .args .x) (sym (c .before .before .covers .ensures) ∙ c .before .if1 .taken)
 
-add-t12 : tie.Need-add-t12 Inv-loop μ-loop
+add-at : tie.Need-add-at Inv-loop μ-loop
 unfolding bucketSize
-add-t12 c = let start = c .before .before .before .before .before .before .before .before in let log = c .before .before .before .before .log-at in
+add-at c = let start = c .before .before .before .before .before .before .before .before in let log = c .before .before .before .before .log-at in
     let covers = sym (c .before .before .before .covers .ensures) ∙ c .before .before .if1 .taken in
     let low = covered-low (log .result) (start .args .x) covers in
     let high = covered-high (log .result) (start .args .x) covers in
@@ -81,8 +82,8 @@ run-in-spec =
     sub-k
     log-at-requires
     covers-requires
-    sub-t11
-    add-t12
+    sub-at
+    add-at
     smaller-requires
     returns
     shortened-requires
