@@ -1,5 +1,6 @@
 -- Laws of splices that follow each other, and of a splice at the start.
 use mathlib.Core.Path.{_≡_, sym, ap, _∙_}
+use mathlib.Core.Logic.{inl}
 use mathlib.Core.List.{List, [], _∷_, _++_, append-assoc}
 use Prim.Native.Nat.{ℕ, _+_, _<_, _≤_}
 use native.Mathlib.Nat.{zero-add, add-zero, add-assoc}
@@ -8,7 +9,7 @@ use native.Mathlib.Omega.{arith}
 use lib.ListN.{length, take, drop, set, length-append, length-drop, take-append-drop}
 use lib.Seq.{set-split, drop-drop, drop-at, take-at, take-add, length-take-le}
 use Rattle.lists.specs.Lists.{splice, part}
-use Rattle.lists.proofs.Parts.{length-part-fits}
+use Rattle.lists.proofs.Parts.{length-part-fits, splice-comm}
 
 -- one element
 pub splice-one : (l : List ℕ) (i x : ℕ) → i < length l → set l i x ≡ splice l i (x ∷ [])
@@ -52,9 +53,12 @@ pub part-next : (l : List ℕ) (a i n : ℕ) → part l a (i + n) ≡ part l a i
 unfolding part
 part-next l a i n = rw (take-add i n (drop a l), drop-drop i a l)
 
-pub splice-part : (l bytes : List ℕ) (at a i n : ℕ) → at + i ≤ length l → a + i ≤ length bytes
-    → splice (splice l at (part bytes a i)) (at + i) (part bytes (a + i) n) ≡ splice l at (part bytes a (i + n))
-splice-part l bytes at a i n h k =
-    let e : length (part bytes a i) ≡ i = length-part-fits bytes a i k in
-    rw (part-next bytes a i n)
-    (ap (λ (j : ℕ). splice (splice l at (part bytes a i)) (at + j) (part bytes (a + i) n)) (sym e) ∙ splice-next l at (part bytes a i) (part bytes (a + i) n) (rw e h))
+-- a part of bytes put before the part that follows it
+pub splice-before : (l bytes : List ℕ) (at a i n : ℕ) → at + i + n ≤ length l → a + i + n ≤ length bytes
+    → splice (splice l (at + i) (part bytes (a + i) n)) at (part bytes a i) ≡ splice l at (part bytes a (i + n))
+splice-before l bytes at a i n h k =
+    let first : length (part bytes a i) ≡ i = length-part-fits bytes a i (omega arith) in
+    let rest : length (part bytes (a + i) n) ≡ n = length-part-fits bytes (a + i) n (omega arith) in
+    splice-comm l (at + i) (part bytes (a + i) n) at (part bytes a i) (omega arith) (omega arith) (inl (omega arith))
+    ∙ rw (part-next bytes a i n)
+    (ap (λ (j : ℕ). splice (splice l at (part bytes a i)) (at + j) (part bytes (a + i) n)) (sym first) ∙ splice-next l at (part bytes a i) (part bytes (a + i) n) (omega arith))

@@ -7,7 +7,7 @@ use spare::Fields;
 use spare::Seen;
 ghost use mathlib.Core.Path.{_≡_};
 ghost use mathlib.Core.List.{List};
-ghost use Prim.Native.Nat.{ℕ, _+_, _≤_, _<_, max};
+ghost use Prim.Native.Nat.{ℕ, _+_, _≤_, _<_, min};
 ghost use lib.ListN.{length};
 ghost use Rattle.lists.specs.Lists.{splice};
 ghost use Rattle.model.specs.Sizes.{bucketSize, flashSize, body};
@@ -15,10 +15,10 @@ ghost use Rattle.model.specs.Image.{mergeTo, merge};
 ghost use Rattle.model.proofs.Limits.{Limits};
 ghost use Rattle.overlay.specs.Window.{Turns, Readable, chip, LogPlace, logPart};
 
-fn larger(a: usize, b: usize) -> usize
-    ensures { λ r. ⌜ r ≡ max a b ⌝ }
+pub fn smaller(a: usize, b: usize) -> usize
+    ensures { λ r. ⌜ r ≡ min a b ⌝ }
 {
-    if a < b { b } else { a }
+    if a < b { a } else { b }
 }
 
 // Lays bytes, which belong into the whole from index `at` on, over the window, which shows the whole from index `from` on.
@@ -27,8 +27,8 @@ fn lay(from: usize, at: usize, bytes: &[u8], window: &mut [u8])
     requires { ⌜ at + length (now bytes) ≤ 65536 ⌝ }
     ensures { λ _. ⌜ ((whole : List ℕ) → from + length (now (window .entry)) ≤ length whole → at + length (now (bytes .entry)) ≤ length whole → Turns from whole (splice whole at (now (bytes .entry))) (now (window .entry)) (now (window .exit))) ⌝ }
 {
-    let start = larger(from, at);
-    let end = overlay::smaller(from + window.len(), at + bytes.len());
+    let start = overlay::larger(from, at);
+    let end = smaller(from + window.len(), at + bytes.len());
     if end <= start {
         return;
     }

@@ -1,15 +1,16 @@
 -- What a page's log covers, and the runs that a search from the last page on finds.
-use Prim.Native.Nat.{ℕ, zero, suc, _+_, _-_, _*_, _≤_, _<_, min}
+use Prim.Native.Nat.{ℕ, zero, suc, _+_, _-_, _*_, _≤_, _<_, max}
 use mathlib.Core.Path.{_≡_, refl, sym, ap, _∙_}
 use mathlib.Core.Bool.{Bool, true, false, _&&_, _||_, true≢false}
 use mathlib.Core.Logic.{_⊎_, inl, inr}
 use mathlib.Core.List.{List, [], _∷_, _++_}
 use native.Mathlib.Nat.{le-refl}
 use native.Mathlib.Omega.{arith}
+use native.Mathlib.Decide.{decLt}
 use lib.ListN.{length, take, getD, replicate, length-replicate}
 use lib.Seq.{take-all}
 use lib.Dec.{leb, ltb, eqb}
-use borrow.Author.Tests.{eq-eqb, eqb-true, leb-true, leb-false, ltb-true, ltb-false, lt-ltb, le-ltb}
+use borrow.Author.Tests.{eq-eqb, eqb-true, leb-true, le-leb, ltb-true, ltb-false, lt-ltb, le-ltb}
 use Rattle.lists.specs.Lists.{if_then_else_, all, any, member, splice}
 use Rattle.lists.proofs.Tests.{true-or-false, and-left, and-right, and-true, or-second}
 use Rattle.lists.proofs.Parts.{getD-part, length-part-fits, getD-splice-in, getD-splice-before, getD-splice-after}
@@ -18,7 +19,7 @@ use Rattle.model.specs.declared.Sizes.{Sizes}
 use Rattle.model.specs.Sizes.{Device, bucketSize, flashSize, body}
 use Rattle.model.specs.Spare.{blank}
 use Rattle.model.specs.Stores.{tagOf}
-use Rattle.model.specs.Image.{endsLog, mergeTo, merge, blanks}
+use Rattle.model.specs.Image.{endsLog, mergeTo, merge}
 use Rattle.model.specs.State.{isBelow}
 use Rattle.model.specs.Recover.{mergeAll}
 use Rattle.model.proofs.Limits.{on-chip}
@@ -30,7 +31,7 @@ use Rattle.overlay.specs.declared.Extent.{Extent}
 use Rattle.overlay.specs.declared.Run.{Run}
 use Rattle.overlay.specs.Window.{chip, Tagged, Readable, LogPlace, logPart}
 use Rattle.overlay.specs.Runs.{Lays, EndsBy, Runs}
-use Rattle.overlay.proofs.Logs.{in-flash, merged-length, log-place, log-laid, ends-last, log-lacking, merged-programmed}
+use Rattle.overlay.proofs.Logs.{in-flash, merged-length, log-place, log-laid, ends-last, log-lacking}
 
 -- ---- one page
 
@@ -102,25 +103,26 @@ module _ {z : Sizes} {spare : List ℕ} (tagged : Tagged z spare) {c : ℕ} (buc
 
 -- ---- one bucket
 
-module _ (e : Extent) (x : ℕ) (h : (leb (e .low) x && ltb x (e .high)) ≡ true) where
-  pub covered-low : e .low ≤ x
-  covered-low = leb-true (e .low) x (and-left (leb (e .low) x) (ltb x (e .high)) h)
+module _ (e : Extent) (x : ℕ) (h : (ltb (e .low) x && leb x (e .high)) ≡ true) where
+  pub covered-low : e .low < x
+  covered-low = ltb-true (e .low) x (and-left (ltb (e .low) x) (leb x (e .high)) h)
 
-  pub covered-high : x < e .high
-  covered-high = ltb-true x (e .high) (and-right (leb (e .low) x) (ltb x (e .high)) h)
+  pub covered-high : x ≤ e .high
+  covered-high = leb-true x (e .high) (and-right (ltb (e .low) x) (leb x (e .high)) h)
 
--- the bytes from x up to an end are those of the pages before page k
-abbrev pub Below : (z : Sizes) (spare : List ℕ) (c x end k : ℕ) → Type 0
-Below z spare c x end k = (flash base : List ℕ) → Readable z flash spare → length base ≡ bucketSize z → (i : ℕ) → x ≤ i → i < end
+-- the bytes from a start up to x are those of the pages before page k
+abbrev pub Above : (z : Sizes) (spare : List ℕ) (c start x k : ℕ) → Type 0
+Above z spare c start x k = (flash base : List ℕ) → Readable z flash spare → length base ≡ bucketSize z → (i : ℕ) → start ≤ i → i < x
     → getD (mergeTo z (chip flash spare) c base (z .p)) i 0 ≡ getD (mergeTo z (chip flash spare) c base k) i 0
 
--- a run from x on that a log's start cuts short
-abbrev pub shortenedTo : (x end : ℕ) → Extent → ℕ
-shortenedTo x end e = if ltb x (e .low) then min end (e .low) else end
+-- a run up to x whose start a log's end raises
+abbrev pub raisedTo : (x start : ℕ) → Extent → ℕ
+raisedTo x start e = if ltb (e .high) x then max start (e .high) else start
 
-module _ {z : Sizes} {spare : List ℕ} {c x stop end k : ℕ} {e : Extent} (some : x < end) (most : end ≤ stop) (below : Below z spare c x end (k + 1)) (lays : Lays z spare c k e) where
-  -- the log covers x
-  pub run-found : (leb (e .low) x && ltb x (e .high)) ≡ true → Runs z spare (c ∷ []) x stop (record { covered = true; at = e .at + (x - e .low); end = min end (e .high) })
+module _ {z : Sizes} {spare : List ℕ} {c from start x k : ℕ} {e : Extent} (some : start < x) (least : from ≤ start) (above : Above z spare c start x (k + 1)) (lays : Lays z spare c k e) where
+  -- the log covers the byte before x
+  pub run-found : (ltb (e .low) x && leb x (e .high)) ≡ true
+      → Runs z spare (c ∷ []) from x (record { covered = true; at = e .at + (max start (e .low) - e .low); start = max start (e .low) })
   unfolding mergeAll merge member any
   run-found h =
       let low = covered-low e x h in
@@ -128,66 +130,80 @@ module _ {z : Sizes} {spare : List ℕ} {c x stop end k : ℕ} {e : Extent} (som
       let inside = lays .inside (omega arith) in
       record {
         some = omega arith;
-        most = omega arith;
+        least = omega arith;
         inside = λ t. (c, rw (eq-eqb c c refl), record { bucket = inside .bucket; low = omega (arith, inside .low); high = omega (arith, inside .high) });
         over = λ t flash base r s i l m.
-            let place : e .at + (i - e .low) ≡ e .at + (x - e .low) + (i - x) = omega arith in
-            below flash base r s i l (omega arith) ∙ lays .over flash base r s i (omega arith) (omega arith) ∙ ap (λ (y : ℕ). getD flash y 0) place;
+            let place : e .at + (i - e .low) ≡ e .at + (max start (e .low) - e .low) + (i - max start (e .low)) = omega arith in
+            above flash base r s i (omega arith) m ∙ lays .over flash base r s i (omega arith) (omega arith) ∙ ap (λ (y : ℕ). getD flash y 0) place;
         beside = λ t. absurd (true≢false t);
       }
 
-  module _ (h : (leb (e .low) x && ltb x (e .high)) ≡ false) where
-    low-or-high : (x < e .low) ⊎ ((e .low ≤ x) × (e .high ≤ x))
-    low-or-high = go (true-or-false (leb (e .low) x))
+  module _ (h : (ltb (e .low) x && leb x (e .high)) ≡ false) where
+    low-or-high : (e .high < x) ⊎ ((x ≤ e .low) × (x ≤ e .high))
+    low-or-high = go (true-or-false (ltb (e .high) x)) (true-or-false (ltb (e .low) x))
       where
-        go : (leb (e .low) x ≡ true) ⊎ (leb (e .low) x ≡ false) → (x < e .low) ⊎ ((e .low ≤ x) × (e .high ≤ x))
-        go (inr l) = inl (leb-false (e .low) x l)
-        go (inl l) = inr (leb-true (e .low) x l, ltb-false x (e .high) (rw l at h))
+        go : (ltb (e .high) x ≡ true) ⊎ (ltb (e .high) x ≡ false) → (ltb (e .low) x ≡ true) ⊎ (ltb (e .low) x ≡ false) → (e .high < x) ⊎ ((x ≤ e .low) × (x ≤ e .high))
+        go (inl u) l = inl (ltb-true (e .high) x u)
+        go (inr u) (inr l) = inr (ltb-false (e .low) x l, ltb-false (e .high) x u)
+        go (inr u) (inl l) = absurd (true≢false (sym (le-leb x (e .high) (ltb-false (e .high) x u)) ∙ rw l at h))
 
-    -- it does not, and begins behind x or ends before
-    pub shortened-some : x < shortenedTo x end e
-    shortened-some = go low-or-high
+    -- it does not, and ends before or begins behind
+    pub raised-some : raisedTo x start e < x
+    raised-some = go low-or-high
       where
-        go : (x < e .low) ⊎ ((e .low ≤ x) × (e .high ≤ x)) → x < shortenedTo x end e
-        go (inl l) = rw (lt-ltb x (e .low) l) (omega arith)
-        go (inr l) = rw (le-ltb x (e .low) (l .0)) some
+        go : (e .high < x) ⊎ ((x ≤ e .low) × (x ≤ e .high)) → raisedTo x start e < x
+        go (inl l) = rw (lt-ltb (e .high) x l) (omega arith)
+        go (inr l) = rw (le-ltb (e .high) x (l .1)) some
 
-    pub shortened-most : shortenedTo x end e ≤ stop
-    shortened-most = go low-or-high
+    pub raised-least : from ≤ raisedTo x start e
+    raised-least = go low-or-high
       where
-        go : (x < e .low) ⊎ ((e .low ≤ x) × (e .high ≤ x)) → shortenedTo x end e ≤ stop
-        go (inl l) = rw (lt-ltb x (e .low) l) (omega arith)
-        go (inr l) = rw (le-ltb x (e .low) (l .0)) most
+        go : (e .high < x) ⊎ ((x ≤ e .low) × (x ≤ e .high)) → from ≤ raisedTo x start e
+        go (inl l) = rw (lt-ltb (e .high) x l) (omega arith)
+        go (inr l) = rw (le-ltb (e .high) x (l .1)) least
 
-    pub shortened-below : Below z spare c x (shortenedTo x end e) k
-    shortened-below flash base r s i l m = go low-or-high m
+    pub raised-above : Above z spare c (raisedTo x start e) x k
+    raised-above flash base r s i l m = go low-or-high l
       where
-        go : (x < e .low) ⊎ ((e .low ≤ x) × (e .high ≤ x)) → i < shortenedTo x end e
+        go : (e .high < x) ⊎ ((x ≤ e .low) × (x ≤ e .high)) → raisedTo x start e ≤ i
             → getD (mergeTo z (chip flash spare) c base (z .p)) i 0 ≡ getD (mergeTo z (chip flash spare) c base k) i 0
         go (inl o) n =
-            let n' : i < min end (e .low) = rw (lt-ltb x (e .low) o) at n in
-            below flash base r s i l (omega arith) ∙ lays .beside flash base r s i (inl (omega arith))
+            let n' : max start (e .high) ≤ i = rw (lt-ltb (e .high) x o) at n in
+            above flash base r s i (omega arith) m ∙ lays .beside flash base r s i (inr (omega arith))
         go (inr o) n =
-            let n' : i < end = rw (le-ltb x (e .low) (o .0)) at n in
-            below flash base r s i l n' ∙ lays .beside flash base r s i (inr (omega (arith, o .1)))
+            let n' : start ≤ i = rw (le-ltb (e .high) x (o .1)) at n in
+            above flash base r s i n' m ∙ lays .beside flash base r s i (inl (omega (arith, o .0)))
 
--- no log ends behind the pages looked at
-pub below-end : {z : Sizes} {spare : List ℕ} {c n : ℕ} (x end : ℕ) → EndsBy z spare c n → Below z spare c x end n
-below-end x end ends flash base r s i l m = ap (λ (w : List ℕ). getD w i 0) (sym (ends .rest flash base r))
+-- no page behind those looked at lays a byte before x
+pub above-end : {z : Sizes} {spare : List ℕ} {c n x : ℕ} (start : ℕ) → EndsBy z spare c x n → Above z spare c start x n
+above-end start ends flash base r s i l m = ends .rest flash base r s i m
 
-ends-all : (z : Sizes) (spare : List ℕ) (c : ℕ) → EndsBy z spare c (z .p)
-ends-all z spare c = record { most = le-refl (z .p); rest = λ flash base r. refl }
+pub ends-all : (z : Sizes) (spare : List ℕ) (c x : ℕ) → EndsBy z spare c x (z .p)
+ends-all z spare c x = record { most = le-refl (z .p); rest = λ flash base r s i m. refl }
 
-pub ends-programmed : {z : Sizes} {spare : List ℕ} {c n : ℕ} → c < body z → n ≡ z .p - blanks z (spareOnly spare) c → EndsBy z spare c n
-ends-programmed {z} {spare} {c} {n} bucket e = record {
-  most = omega (arith, e);
-  rest = λ flash base r. ap (mergeTo z (chip flash spare) c base) e ∙ merged-programmed r bucket base;
+-- what holds before x holds before less
+pub ends-less : {z : Sizes} {spare : List ℕ} {c n x : ℕ} (y : ℕ) → y ≤ x → EndsBy z spare c x n → EndsBy z spare c y n
+ends-less y h ends = record { most = ends .most; rest = λ flash base r s i m. ends .rest flash base r s i (omega arith) }
+
+-- nor does a page that reaches no byte before x
+pub ends-dead : {z : Sizes} {spare : List ℕ} {c k x : ℕ} {e : Extent} → Lays z spare c k e → (ltb (e .low) x && ltb (e .low) (e .high)) ≡ false → EndsBy z spare c x (k + 1) → EndsBy z spare c x k
+ends-dead {z} {spare} {c} {k} {x} {e} lays dead ends = record {
+  most = omega (arith, ends .most);
+  rest = λ flash base r s i m. ends .rest flash base r s i m ∙ lays .beside flash base r s i (go i m (true-or-false (ltb (e .low) x)));
 }
+  where
+    go : (i : ℕ) → i < x → (ltb (e .low) x ≡ true) ⊎ (ltb (e .low) x ≡ false) → (i < e .low) ⊎ (e .high ≤ i)
+    go i m (inr l) = inl (omega (arith, ltb-false (e .low) x l))
+    go i m (inl l) = outside (decLt i (e .low)) (ltb-false (e .low) (e .high) (rw l at dead))
+      where
+        outside : Dec (i < e .low) → e .high ≤ e .low → (i < e .low) ⊎ (e .high ≤ i)
+        outside (yes u) v = inl u
+        outside (no u) v = inr (omega arith)
 
 -- no page is left
-pub run-none : {z : Sizes} {spare : List ℕ} {c x stop end : ℕ} → x < end → end ≤ stop → Below z spare c x end 0 → Runs z spare (c ∷ []) x stop (record { covered = false; at = 0; end = end })
+pub run-none : {z : Sizes} {spare : List ℕ} {c from start x : ℕ} → start < x → from ≤ start → Above z spare c start x 0 → Runs z spare (c ∷ []) from x (record { covered = false; at = 0; start = start })
 unfolding mergeAll merge mergeTo
-run-none some most below = record { some = some; most = most; inside = λ t. absurd (true≢false (sym t)); over = λ t. absurd (true≢false (sym t)); beside = λ t. below }
+run-none some least above = record { some = some; least = least; inside = λ t. absurd (true≢false (sym t)); over = λ t. absurd (true≢false (sym t)); beside = λ t. above }
 
 -- ---- several buckets
 
@@ -221,16 +237,16 @@ member-at [] i h = absurd (omega arith)
 member-at (x ∷ l) zero h = rw (eq-eqb x x refl)
 member-at (x ∷ l) (suc i) h = or-second (eqb (getD l i 0) x) (any (eqb (getD l i 0)) l) (member-at l i (omega arith))
 
--- the bytes from x up to an end are those of the first j buckets
-abbrev pub Among : (z : Sizes) (spare list : List ℕ) (x end j : ℕ) → Type 0
-Among z spare list x end j = (flash base : List ℕ) → Readable z flash spare → length base ≡ bucketSize z → (i : ℕ) → x ≤ i → i < end
+-- the bytes from a start up to x are those of the first j buckets
+abbrev pub Among : (z : Sizes) (spare list : List ℕ) (start x j : ℕ) → Type 0
+Among z spare list start x j = (flash base : List ℕ) → Readable z flash spare → length base ≡ bucketSize z → (i : ℕ) → start ≤ i → i < x
     → getD (mergeAll z (chip flash spare) list base) i 0 ≡ getD (mergeAll z (chip flash spare) (take j list) base) i 0
 
-pub among-all : (z : Sizes) (spare list : List ℕ) (x end : ℕ) → Among z spare list x end (length list)
-among-all z spare list x end flash base r s i l m = ap (λ (w : List ℕ). getD (mergeAll z (chip flash spare) w base) i 0) (sym (take-all (length list) list (le-refl (length list))))
+pub among-all : (z : Sizes) (spare list : List ℕ) (start x : ℕ) → Among z spare list start x (length list)
+among-all z spare list start x flash base r s i l m = ap (λ (w : List ℕ). getD (mergeAll z (chip flash spare) w base) i 0) (sym (take-all (length list) list (le-refl (length list))))
 
-module _ {z : Sizes} {spare : List ℕ} (list : List ℕ) (below : all (isBelow (body z)) list ≡ true) {x stop end j : ℕ} (most : end ≤ stop) (here : j < length list)
-    (among : Among z spare list x end (j + 1)) {r : Run} (runs : Runs z spare (getD list j 0 ∷ []) x end r) where
+module _ {z : Sizes} {spare : List ℕ} (list : List ℕ) (below : all (isBelow (body z)) list ≡ true) {from start x j : ℕ} (least : from ≤ start) (here : j < length list)
+    (among : Among z spare list start x (j + 1)) {r : Run} (runs : Runs z spare (getD list j 0 ∷ []) start x r) where
   -- the next bucket's logs over those of the buckets before it
   next : (flash base : List ℕ) → mergeAll z (chip flash spare) (take (j + 1) list) base ≡ mergeAll z (chip flash spare) (getD list j 0 ∷ []) (mergeAll z (chip flash spare) (take j list) base)
   next flash base = ap (λ (w : List ℕ). mergeAll z (chip flash spare) w base) (done-more j list 0 here) ∙ merge-append z (chip flash spare) (take j list) (getD list j 0 ∷ []) base
@@ -246,32 +262,32 @@ module _ {z : Sizes} {spare : List ℕ} (list : List ℕ) (below : all (isBelow 
       or-none true h = refl
       or-none false h = h
 
-  pub list-found : r .covered ≡ true → Runs z spare list x stop r
+  pub list-found : r .covered ≡ true → Runs z spare list from x r
   list-found t = record {
     some = runs .some;
-    most = omega (arith, runs .most);
+    least = omega (arith, runs .least);
     inside = λ u. let w = runs .inside u in (w .0, only (w .0) (w .1), w .2);
     over = λ u flash base readable size i l m.
-        among flash base readable size i l (omega (arith, runs .most)) ∙ ap (λ (w : List ℕ). getD w i 0) (next flash base)
+        among flash base readable size i (omega (arith, runs .least)) m ∙ ap (λ (w : List ℕ). getD w i 0) (next flash base)
         ∙ runs .over u flash (mergeAll z (chip flash spare) (take j list) base) readable (front-size flash base readable size) i l m;
     beside = λ u. absurd (true≢false (sym t ∙ u));
   }
 
-  pub list-passed : r .covered ≡ false → Among z spare list x (r .end) j
+  pub list-passed : r .covered ≡ false → Among z spare list (r .start) x j
   list-passed t flash base readable size i l m =
-      among flash base readable size i l (omega (arith, runs .most)) ∙ ap (λ (w : List ℕ). getD w i 0) (next flash base)
+      among flash base readable size i (omega (arith, runs .least)) m ∙ ap (λ (w : List ℕ). getD w i 0) (next flash base)
       ∙ runs .beside t flash (mergeAll z (chip flash spare) (take j list) base) readable (front-size flash base readable size) i l m
 
 -- no bucket is left
-pub list-none : {z : Sizes} {spare list : List ℕ} {x stop end : ℕ} → x < end → end ≤ stop → Among z spare list x end 0 → Runs z spare list x stop (record { covered = false; at = 0; end = end })
+pub list-none : {z : Sizes} {spare list : List ℕ} {from start x : ℕ} → start < x → from ≤ start → Among z spare list start x 0 → Runs z spare list from x (record { covered = false; at = 0; start = start })
 unfolding mergeAll
-list-none some most among = record { some = some; most = most; inside = λ t. absurd (true≢false (sym t)); over = λ t. absurd (true≢false (sym t)); beside = λ t. among }
+list-none some least among = record { some = some; least = least; inside = λ t. absurd (true≢false (sym t)); over = λ t. absurd (true≢false (sym t)); beside = λ t. among }
 
 -- the pages to be looked at of each listed bucket
-pub ends-at : {z : Sizes} {spare : List ℕ} {newest : ℕ} (list : List ℕ) → (0 < length list → EndsBy z spare (getD list (length list - 1) 0) newest) → (j : ℕ) → j < length list
-    → EndsBy z spare (getD list j 0) (if eqb j (length list - 1) then newest else z .p)
-ends-at {z} {spare} {newest} list last j h = go (true-or-false (eqb j (length list - 1)))
+pub ends-at : {z : Sizes} {spare : List ℕ} {newest x : ℕ} (list : List ℕ) → (0 < length list → EndsBy z spare (getD list (length list - 1) 0) x newest) → (j : ℕ) → j < length list
+    → EndsBy z spare (getD list j 0) x (if eqb j (length list - 1) then newest else z .p)
+ends-at {z} {spare} {newest} {x} list last j h = go (true-or-false (eqb j (length list - 1)))
   where
-    go : (eqb j (length list - 1) ≡ true) ⊎ (eqb j (length list - 1) ≡ false) → EndsBy z spare (getD list j 0) (if eqb j (length list - 1) then newest else z .p)
+    go : (eqb j (length list - 1) ≡ true) ⊎ (eqb j (length list - 1) ≡ false) → EndsBy z spare (getD list j 0) x (if eqb j (length list - 1) then newest else z .p)
     go (inl e) = rw e (rw (← eqb-true j (length list - 1) e) at (last (omega arith)))
-    go (inr e) = rw e (ends-all z spare (getD list j 0))
+    go (inr e) = rw e (ends-all z spare (getD list j 0) x)

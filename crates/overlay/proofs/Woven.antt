@@ -12,7 +12,7 @@ use Rattle.lists.specs.Lists.{if_then_else_, all, empty, member, splice, part}
 use Rattle.lists.proofs.Tests.{true-or-false, if-true, if-false}
 use Rattle.lists.proofs.Arrays.{empty-length}
 use Rattle.lists.proofs.Parts.{Apart, part-from, part-other, length-splice, length-part-fits}
-use Rattle.lists.proofs.Splices.{splice-own, splice-part, splice-start}
+use Rattle.lists.proofs.Splices.{splice-own, splice-before, splice-start}
 use Rattle.lists.proofs.Windows.{part-part}
 use Rattle.model.specs.declared.Sizes.{Sizes}
 use Rattle.model.specs.Sizes.{bucketSize, flashSize, body}
@@ -28,7 +28,7 @@ pub tagged-of : {z : Sizes} {flash spare : List ℕ} → Readable z flash spare 
 tagged-of r = record { limits = r .limits; spare-length = r .spare-length; well-formed = r .well-formed }
 
 -- where a log's bytes lie there is flash
-pub stored : {z : Sizes} {flash spare list : List ℕ} {x stop : ℕ} {r : Run} → Readable z flash spare → Runs z spare list x stop r → r .covered ≡ true → r .at + (r .end - x) ≤ length flash
+pub stored : {z : Sizes} {flash spare list : List ℕ} {from x : ℕ} {r : Run} → Readable z flash spare → Runs z spare list from x r → r .covered ≡ true → r .at + (x - r .start) ≤ length flash
 unfolding flashSize
 stored {z} readable runs t =
     let w = runs .inside t in
@@ -41,60 +41,63 @@ module _ {z : Sizes} {flash spare : List ℕ} (readable : Readable z flash spare
   pub result-size : length result ≡ bucketSize z
   result-size = merge-all-length readable list below whole size
 
-  module _ {x stop : ℕ} (stops : stop ≤ bucketSize z) {r : Run} (runs : Runs z spare list x stop r) where
+  module _ {from x : ℕ} (inside : x ≤ bucketSize z) {r : Run} (runs : Runs z spare list from x r) where
     -- the run's bytes of the result
-    pub over-part : r .covered ≡ true → part result x (r .end - x) ≡ part flash (r .at) (r .end - x)
+    pub over-part : r .covered ≡ true → part result (r .start) (x - r .start) ≡ part flash (r .at) (x - r .start)
     over-part t =
-        part-from result flash x (r .at) (r .end - x) (omega (arith, runs .some, runs .most, result-size)) (stored readable runs t)
-        (λ k h. let same : x + k - x ≡ k = omega arith in
-        runs .over t flash whole readable size (x + k) (omega arith) (omega (arith, runs .some)) ∙ ap (λ (j : ℕ). getD flash (r .at + j) 0) same)
+        part-from result flash (r .start) (r .at) (x - r .start) (omega (arith, runs .some, result-size)) (stored readable runs t)
+        (λ k h. let same : r .start + k - r .start ≡ k = omega arith in
+        runs .over t flash whole readable size (r .start + k) (omega arith) (omega (arith, runs .some)) ∙ ap (λ (j : ℕ). getD flash (r .at + j) 0) same)
 
-    pub beside-part : r .covered ≡ false → part result x (r .end - x) ≡ part whole x (r .end - x)
+    pub beside-part : r .covered ≡ false → part result (r .start) (x - r .start) ≡ part whole (r .start) (x - r .start)
     beside-part t =
-        part-from result whole x x (r .end - x) (omega (arith, runs .some, runs .most, result-size)) (omega (arith, runs .some, runs .most))
-        (λ k h. runs .beside t flash whole readable size (x + k) (omega arith) (omega (arith, runs .some)))
+        part-from result whole (r .start) (r .start) (x - r .start) (omega (arith, runs .some, result-size)) (omega (arith, runs .some))
+        (λ k h. runs .beside t flash whole readable size (r .start + k) (omega arith) (omega (arith, runs .some)))
 
   -- ---- into a window
 
   module _ {under window₀ : List ℕ} (from : ℕ) (fits : from + length window₀ ≤ bucketSize z) (shows : Shows whole under from window₀) where
-    -- the window shows the result up to x, and then up to the run's end
-    module _ {x : ℕ} (first : from ≤ x) {r : Run} (runs : Runs z spare list x (from + length window₀) r) {window : List ℕ} (shown : window ≡ splice window₀ 0 (part result from (x - from))) where
-      start : from + (x - from) ≡ x
-      start = omega arith
+    -- the window shows the result from x on, and then from the run's start on
+    module _ {x : ℕ} (last : x ≤ from + length window₀) {r : Run} (runs : Runs z spare list from x r) {window : List ℕ}
+        (shown : window ≡ splice window₀ (x - from) (part result x (from + length window₀ - x))) where
+      place : from + (r .start - from) ≡ r .start
+      place = omega (arith, runs .least)
 
-      next : splice window (x - from) (part result x (r .end - x)) ≡ splice window₀ 0 (part result from (r .end - from))
+      next : splice window (r .start - from) (part result (r .start) (x - r .start)) ≡ splice window₀ (r .start - from) (part result (r .start) (from + length window₀ - r .start))
       next =
-          let whole-run : (x - from) + (r .end - x) ≡ r .end - from = omega (arith, runs .some) in
-          let joined = splice-part window₀ result 0 from (x - from) (r .end - x) (omega (arith, runs .some, runs .most)) (omega (arith, runs .some, runs .most, result-size)) in
-          rw shown (rw (zero-add (x - from), start, whole-run) at joined)
+          let before : (r .start - from) + (x - r .start) ≡ x - from = omega (arith, runs .some, runs .least) in
+          let up : r .start + (x - r .start) ≡ x = omega (arith, runs .some) in
+          let whole-part : (x - r .start) + (from + length window₀ - x) ≡ from + length window₀ - r .start = omega (arith, runs .some) in
+          let joined = splice-before window₀ result (r .start - from) (r .start) (x - r .start) (from + length window₀ - x) (omega (arith, runs .some, runs .least)) (omega (arith, runs .some, result-size)) in
+          rw shown (rw (before, up, whole-part) at joined)
 
-      length-shown : length (part result from (x - from)) ≡ x - from
-      length-shown = length-part-fits result from (x - from) (omega (arith, runs .some, runs .most, result-size))
+      length-shown : length (part result x (from + length window₀ - x)) ≡ from + length window₀ - x
+      length-shown = length-part-fits result x (from + length window₀ - x) (omega (arith, result-size))
 
       length-window : length window ≡ length window₀
-      length-window = ap length shown ∙ length-splice window₀ 0 (part result from (x - from)) (omega (arith, runs .some, runs .most, length-shown))
+      length-window = ap length shown ∙ length-splice window₀ (x - from) (part result x (from + length window₀ - x)) (omega (arith, runs .some, runs .least, length-shown))
 
       -- where nothing is lent, the window shows a run that no log covers
-      own : r .covered ≡ false → empty under ≡ true → Shows whole under from window₀ → part result x (r .end - x) ≡ part window (x - from) (r .end - x)
-      own t u (inl q) = absurd (omega (arith, runs .some, runs .most, eqb-true (length under) 0 (sym (empty-length under) ∙ u), ap length q))
+      own : r .covered ≡ false → empty under ≡ true → Shows whole under from window₀ → part result (r .start) (x - r .start) ≡ part window (r .start - from) (x - r .start)
+      own t u (inl q) = absurd (omega (arith, runs .some, eqb-true (length under) 0 (sym (empty-length under) ∙ u), ap length q))
       own t u (inr q) =
-          beside-part fits runs t ∙ ap (λ (i : ℕ). part whole i (r .end - x)) (sym start)
-          ∙ sym (part-part whole from (length window₀) (x - from) (r .end - x) (omega (arith, runs .some, runs .most)) (omega arith))
-          ∙ ap (λ (w : List ℕ). part w (x - from) (r .end - x)) (sym (q .1))
-          ∙ sym (part-other window₀ 0 (part result from (x - from)) (x - from) (r .end - x) (omega (arith, runs .some, runs .most, length-shown)) (inr (omega (arith, length-shown))))
-          ∙ ap (λ (w : List ℕ). part w (x - from) (r .end - x)) (sym shown)
+          beside-part (omega arith) runs t ∙ ap (λ (i : ℕ). part whole i (x - r .start)) (sym place)
+          ∙ sym (part-part whole from (length window₀) (r .start - from) (x - r .start) (omega (arith, runs .some, runs .least)) (omega arith))
+          ∙ ap (λ (w : List ℕ). part w (r .start - from) (x - r .start)) (sym (q .1))
+          ∙ sym (part-other window₀ (x - from) (part result x (from + length window₀ - x)) (r .start - from) (x - r .start) (omega (arith, runs .some, runs .least, length-shown)) (inl (omega (arith, runs .some, runs .least))))
+          ∙ ap (λ (w : List ℕ). part w (r .start - from) (x - r .start)) (sym shown)
 
-      pub lent-step : lentOver r x from flash under window ≡ splice window₀ 0 (part result from (r .end - from))
+      pub lent-step : lentOver r x from flash under window ≡ splice window₀ (r .start - from) (part result (r .start) (from + length window₀ - r .start))
       unfolding lentOver
       lent-step = go (true-or-false (r .covered)) (true-or-false (empty under)) shows
         where
           go : (r .covered ≡ true) ⊎ (r .covered ≡ false) → (empty under ≡ true) ⊎ (empty under ≡ false) → Shows whole under from window₀
-              → lentOver r x from flash under window ≡ splice window₀ 0 (part result from (r .end - from))
-          go (inl t) u s = rw (t, ← over-part fits runs t) next
-          go (inr t) (inr u) (inl s) = rw (t, u, s, ← beside-part fits runs t) next
+              → lentOver r x from flash under window ≡ splice window₀ (r .start - from) (part result (r .start) (from + length window₀ - r .start))
+          go (inl t) u s = rw (t, ← over-part (omega arith) runs t) next
+          go (inr t) (inr u) (inl s) = rw (t, u, s, ← beside-part (omega arith) runs t) next
           go (inr t) (inr u) (inr s) = absurd (true≢false (sym (s .0) ∙ u))
           go (inr t) (inl u) s =
-              rw (t, u) (sym (splice-own window (x - from) (r .end - x) (omega (arith, runs .some, runs .most, length-window))) ∙ ap (splice window (x - from)) (sym (own t u s)) ∙ next)
+              rw (t, u) (sym (splice-own window (r .start - from) (x - r .start) (omega (arith, runs .some, runs .least, length-window))) ∙ ap (splice window (r .start - from)) (sym (own t u s)) ∙ next)
 
     pub lent-all : splice window₀ 0 (part result from (length window₀)) ≡ part result from (length window₀)
     lent-all =
@@ -142,73 +145,75 @@ module _ {z : Sizes} {flash₀ spare : List ℕ} (readable : Readable z flash₀
       go (inl a) = inl (omega (arith, i .high))
       go (inr a) = inr (omega (arith, i .low))
 
-  module _ {x : ℕ} {r : Run} (runs : Runs z spare list x n r) where
-    taken : r .covered ≡ true → (c : ℕ) × (c ≢ target) × Inside z c (r .at) (r .end - x)
+  module _ {x : ℕ} (most : x ≤ n) {r : Run} (runs : Runs z spare list 0 x r) where
+    taken : r .covered ≡ true → (c : ℕ) × (c ≢ target) × Inside z c (r .at) (x - r .start)
     taken t = let w = runs .inside t in (w .0, λ q. true≢false (sym (w .1) ∙ ap (λ (c : ℕ). member c list) q ∙ aside .unlisted), w .2)
 
-    lower : base ≢ target → Inside z base (base * bucketSize z + x) (r .end - x)
-    lower ne = record { bucket = based; low = omega arith; high = omega (arith, runs .some, runs .most) }
+    lower : base ≢ target → Inside z base (base * bucketSize z + r .start) (x - r .start)
+    lower ne = record { bucket = based; low = omega arith; high = omega (arith, runs .some) }
 
     pub moves : (flash : List ℕ) → length flash ≡ length flash₀ → Moves r x (base * bucketSize z) (target * bucketSize z) (length under) (length flash)
     moves flash same = record {
       some = runs .some;
-      last = omega (arith, runs .most, in-flash target inside);
-      stored = λ t. (omega (arith, stored readable runs t), (let w = taken t in apart x (w .1) (w .2) (omega (arith, runs .some, runs .most))));
+      last = omega (arith, in-flash target inside);
+      stored = λ t. (omega (arith, stored readable runs t), (let w = taken t in apart (r .start) (w .1) (w .2) (omega (arith, runs .some))));
       lent = go lent-or-not;
     }
       where
         go : ((empty under ≡ true) × (length under ≡ 0) × (base ≢ target)) ⊎ ((empty under ≡ false) × (length under ≡ bucketSize z))
-            → ((length under ≡ 0) × (base * bucketSize z + r .end ≤ length flash) × Apart (target * bucketSize z + x) (r .end - x) (base * bucketSize z + x) (r .end - x)) ⊎ (r .end ≤ length under)
-        go (inl h) = inl (h .1, omega (arith, in-flash base based, runs .most), apart x (h .2) (lower (h .2)) (omega (arith, runs .some, runs .most)))
-        go (inr h) = inr (omega (arith, h .1, runs .most))
+            → ((length under ≡ 0) × (base * bucketSize z + x ≤ length flash) × Apart (target * bucketSize z + r .start) (x - r .start) (base * bucketSize z + r .start) (x - r .start)) ⊎ (x ≤ length under)
+        go (inl h) = inl (h .1, omega (arith, in-flash base based), apart (r .start) (h .2) (lower (h .2)) (omega (arith, runs .some)))
+        go (inr h) = inr (omega (arith, h .1))
 
-    -- the target holds the result up to x, and then up to the run's end
-    module _ {flash : List ℕ} (held : flash ≡ splice flash₀ (target * bucketSize z) (part made 0 x)) where
-      length-held : length (part made 0 x) ≡ x
-      length-held = length-part-fits made 0 x (omega (arith, runs .some, runs .most, result-size readable list below whole whole-size))
+    -- the target holds the result from x on, and then from the run's start on
+    module _ {flash : List ℕ} (held : flash ≡ splice flash₀ (target * bucketSize z + x) (part made x (n - x))) where
+      length-held : length (part made x (n - x)) ≡ n - x
+      length-held = length-part-fits made x (n - x) (omega (arith, result-size readable list below whole whole-size))
 
       -- what lies in another bucket is as it was
-      still : {c at : ℕ} → c ≢ target → Inside z c at (r .end - x) → part flash at (r .end - x) ≡ part flash₀ at (r .end - x)
+      still : {c at : ℕ} → c ≢ target → Inside z c at (x - r .start) → part flash at (x - r .start) ≡ part flash₀ at (x - r .start)
       still {c} {at} ne i =
-          ap (λ (l : List ℕ). part l at (r .end - x)) held
-          ∙ part-other flash₀ (target * bucketSize z) (part made 0 x) at (r .end - x) (omega (arith, length-held, in-flash target inside, runs .some, runs .most)) (go (row-apart target c (bucketSize z) (λ q. ne (sym q))))
+          ap (λ (l : List ℕ). part l at (x - r .start)) held
+          ∙ part-other flash₀ (target * bucketSize z + x) (part made x (n - x)) at (x - r .start) (omega (arith, length-held, in-flash target inside)) (go (row-apart target c (bucketSize z) (λ q. ne (sym q))))
         where
-          go : Apart (target * bucketSize z) (bucketSize z) (c * bucketSize z) (bucketSize z) → Apart (target * bucketSize z) (length (part made 0 x)) at (r .end - x)
+          go : Apart (target * bucketSize z) (bucketSize z) (c * bucketSize z) (bucketSize z) → Apart (target * bucketSize z + x) (length (part made x (n - x))) at (x - r .start)
           go (inl a) = inl (omega (arith, i .high))
-          go (inr a) = inr (omega (arith, i .low, length-held, runs .some, runs .most))
+          go (inr a) = inr (omega (arith, i .low, length-held))
 
-      next-held : splice flash (target * bucketSize z + x) (part made x (r .end - x)) ≡ splice flash₀ (target * bucketSize z) (part made 0 (r .end))
+      next-held : splice flash (target * bucketSize z + r .start) (part made (r .start) (x - r .start)) ≡ splice flash₀ (target * bucketSize z + r .start) (part made (r .start) (n - r .start))
       next-held =
-          let whole-run : x + (r .end - x) ≡ r .end = omega (arith, runs .some) in
-          let joined = splice-part flash₀ made (target * bucketSize z) 0 x (r .end - x) (omega (arith, in-flash target inside, runs .some, runs .most)) (omega (arith, runs .some, runs .most, result-size readable list below whole whole-size)) in
-          rw held (rw (zero-add x, whole-run) at joined)
+          let before : target * bucketSize z + r .start + (x - r .start) ≡ target * bucketSize z + x = omega (arith, runs .some) in
+          let up : r .start + (x - r .start) ≡ x = omega (arith, runs .some) in
+          let whole-part : (x - r .start) + (n - x) ≡ n - r .start = omega (arith, runs .some) in
+          let joined = splice-before flash₀ made (target * bucketSize z + r .start) (r .start) (x - r .start) (n - x) (omega (arith, in-flash target inside, runs .some)) (omega (arith, runs .some, result-size readable list below whole whole-size)) in
+          rw held (rw (before, up, whole-part) at joined)
 
       -- the bytes moved, by where they come from
-      moved-bytes : (if r .covered then part flash (r .at) (r .end - x) else (if empty under then part flash (base * bucketSize z + x) (r .end - x) else part under x (r .end - x)))
-          ≡ part made x (r .end - x)
+      moved-bytes : (if r .covered then part flash (r .at) (x - r .start) else (if empty under then part flash (base * bucketSize z + r .start) (x - r .start) else part under (r .start) (x - r .start)))
+          ≡ part made (r .start) (x - r .start)
       moved-bytes = go (true-or-false (r .covered)) lent-or-not
         where
           over : List ℕ
-          over = part flash (r .at) (r .end - x)
+          over = part flash (r .at) (x - r .start)
 
           beneath-it : List ℕ
-          beneath-it = if empty under then part flash (base * bucketSize z + x) (r .end - x) else part under x (r .end - x)
+          beneath-it = if empty under then part flash (base * bucketSize z + r .start) (x - r .start) else part under (r .start) (x - r .start)
 
           go : (r .covered ≡ true) ⊎ (r .covered ≡ false) → ((empty under ≡ true) × (length under ≡ 0) × (base ≢ target)) ⊎ ((empty under ≡ false) × (length under ≡ bucketSize z))
-              → (if r .covered then over else beneath-it) ≡ part made x (r .end - x)
+              → (if r .covered then over else beneath-it) ≡ part made (r .start) (x - r .start)
           go (inl t) u =
               let w = taken t in
-              if-true over beneath-it t ∙ still (w .1) (w .2) ∙ sym (over-part readable list below whole whole-size fits runs t)
+              if-true over beneath-it t ∙ still (w .1) (w .2) ∙ sym (over-part readable list below whole whole-size (omega arith) runs t)
           go (inr t) (inl u) =
-              let lies : part whole x (r .end - x) ≡ part flash₀ (base * bucketSize z + x) (r .end - x) =
-              ap (λ (l : List ℕ). part l x (r .end - x)) (if-true (part flash₀ (base * bucketSize z) (bucketSize z)) under (u .0))
-              ∙ part-part flash₀ (base * bucketSize z) (bucketSize z) x (r .end - x) (omega (arith, runs .some, runs .most)) (in-flash base based) in
-              if-false over beneath-it t ∙ if-true _ _ (u .0) ∙ still (u .2) (lower (u .2)) ∙ sym lies ∙ sym (beside-part readable list below whole whole-size fits runs t)
+              let lies : part whole (r .start) (x - r .start) ≡ part flash₀ (base * bucketSize z + r .start) (x - r .start) =
+              ap (λ (l : List ℕ). part l (r .start) (x - r .start)) (if-true (part flash₀ (base * bucketSize z) (bucketSize z)) under (u .0))
+              ∙ part-part flash₀ (base * bucketSize z) (bucketSize z) (r .start) (x - r .start) (omega (arith, runs .some)) (in-flash base based) in
+              if-false over beneath-it t ∙ if-true _ _ (u .0) ∙ still (u .2) (lower (u .2)) ∙ sym lies ∙ sym (beside-part readable list below whole whole-size (omega arith) runs t)
           go (inr t) (inr u) =
               if-false over beneath-it t ∙ if-false _ _ (u .0)
-              ∙ ap (λ (l : List ℕ). part l x (r .end - x)) (sym (if-false (part flash₀ (base * bucketSize z) (bucketSize z)) under (u .0)))
-              ∙ sym (beside-part readable list below whole whole-size fits runs t)
+              ∙ ap (λ (l : List ℕ). part l (r .start) (x - r .start)) (sym (if-false (part flash₀ (base * bucketSize z) (bucketSize z)) under (u .0)))
+              ∙ sym (beside-part readable list below whole whole-size (omega arith) runs t)
 
-      pub moved-step : movedOver r x (base * bucketSize z) (target * bucketSize z) under flash ≡ splice flash₀ (target * bucketSize z) (part made 0 (r .end))
+      pub moved-step : movedOver r x (base * bucketSize z) (target * bucketSize z) under flash ≡ splice flash₀ (target * bucketSize z + r .start) (part made (r .start) (n - r .start))
       unfolding movedOver
-      moved-step = ap (splice flash (target * bucketSize z + x)) moved-bytes ∙ next-held
+      moved-step = ap (splice flash (target * bucketSize z + r .start)) moved-bytes ∙ next-held

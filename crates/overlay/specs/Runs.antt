@@ -29,49 +29,51 @@ pub record Lays (z : Sizes) (spare : List ℕ) (c k : ℕ) (e : Extent) : Type 0
   pub beside : (flash base : List ℕ) → Readable z flash spare → length base ≡ bucketSize z → (i : ℕ) → (i < e .low) ⊎ (e .high ≤ i)
       → getD (mergeTo z (chip flash spare) c base (k + 1)) i 0 ≡ getD (mergeTo z (chip flash spare) c base k) i 0
 
--- no log ends in the pages of the bucket c from page n on
-pub record EndsBy (z : Sizes) (spare : List ℕ) (c n : ℕ) : Type 0 where
+-- the pages of the bucket c from page n on lay nothing before x
+pub record EndsBy (z : Sizes) (spare : List ℕ) (c x n : ℕ) : Type 0 where
   pub most : n ≤ z .p
-  pub rest : (flash base : List ℕ) → Readable z flash spare → mergeTo z (chip flash spare) c base n ≡ mergeTo z (chip flash spare) c base (z .p)
+  pub rest : (flash base : List ℕ) → Readable z flash spare → length base ≡ bucketSize z → (i : ℕ) → i < x
+      → getD (mergeTo z (chip flash spare) c base (z .p)) i 0 ≡ getD (mergeTo z (chip flash spare) c base n) i 0
 
--- the bytes from x up to the run's end: those that the logs of the listed buckets lay lie in one of these buckets, or they lay none
-pub record Runs (z : Sizes) (spare list : List ℕ) (x stop : ℕ) (r : Run) : Type 0 where
-  pub some : x < r .end
-  pub most : r .end ≤ stop
-  pub inside : r .covered ≡ true → (c : ℕ) × (member c list ≡ true) × Inside z c (r .at) (r .end - x)
-  pub over : r .covered ≡ true → (flash base : List ℕ) → Readable z flash spare → length base ≡ bucketSize z → (i : ℕ) → x ≤ i → i < r .end
-      → getD (mergeAll z (chip flash spare) list base) i 0 ≡ getD flash (r .at + (i - x)) 0
-  pub beside : r .covered ≡ false → (flash base : List ℕ) → Readable z flash spare → length base ≡ bucketSize z → (i : ℕ) → x ≤ i → i < r .end
+-- the bytes from the run's start up to x: those that the logs of the listed buckets lay lie in one of these buckets, or they lay none
+pub record Runs (z : Sizes) (spare list : List ℕ) (from x : ℕ) (r : Run) : Type 0 where
+  pub some : r .start < x
+  pub least : from ≤ r .start
+  pub inside : r .covered ≡ true → (c : ℕ) × (member c list ≡ true) × Inside z c (r .at) (x - r .start)
+  pub over : r .covered ≡ true → (flash base : List ℕ) → Readable z flash spare → length base ≡ bucketSize z → (i : ℕ) → r .start ≤ i → i < x
+      → getD (mergeAll z (chip flash spare) list base) i 0 ≡ getD flash (r .at + (i - r .start)) 0
+  pub beside : r .covered ≡ false → (flash base : List ℕ) → Readable z flash spare → length base ≡ bucketSize z → (i : ℕ) → r .start ≤ i → i < x
       → getD (mergeAll z (chip flash spare) list base) i 0 ≡ getD base i 0
 
 -- ---- a run, put where it belongs
 
--- a run from x on lies where it is said to: in a window that shows the whole from an index on, in a flash and under the logs, of so many bytes
+-- a run up to x lies where it is said to: in a window that shows the whole from an index on, in a flash and under the logs, of so many bytes
 pub record Laid (r : Run) (x from flash under window : ℕ) : Type 0 where
-  pub first : from ≤ x
-  pub some : x < r .end
-  pub last : r .end ≤ from + window
-  pub stored : r .covered ≡ true → r .at + (r .end - x) ≤ flash
-  pub lent : (under ≡ 0) ⊎ (r .end ≤ under)
+  pub first : from ≤ r .start
+  pub some : r .start < x
+  pub last : x ≤ from + window
+  pub stored : r .covered ≡ true → r .at + (x - r .start) ≤ flash
+  pub lent : (under ≡ 0) ⊎ (x ≤ under)
 
 -- into a window; with nothing lent to lie under the logs, it shows that already
 unfoldable pub lentOver : Run → (x from : ℕ) → (flash under window : List ℕ) → List ℕ
 lentOver r x from flash under window =
-    if r .covered then splice window (x - from) (part flash (r .at) (r .end - x))
-    else (if empty under then window else splice window (x - from) (part under x (r .end - x)))
+    if r .covered then splice window (r .start - from) (part flash (r .at) (x - r .start))
+    else (if empty under then window else splice window (r .start - from) (part under (r .start) (x - r .start)))
 
 -- the same within a flash, where the whole begins at one index, and what lies under the logs at another if nothing is lent; no run meets its place
 pub record Moves (r : Run) (x base to under flash : ℕ) : Type 0 where
-  pub some : x < r .end
-  pub last : to + r .end ≤ flash
-  pub stored : r .covered ≡ true → (r .at + (r .end - x) ≤ flash) × Apart (to + x) (r .end - x) (r .at) (r .end - x)
-  pub lent : ((under ≡ 0) × (base + r .end ≤ flash) × Apart (to + x) (r .end - x) (base + x) (r .end - x)) ⊎ (r .end ≤ under)
+  pub some : r .start < x
+  pub last : to + x ≤ flash
+  pub stored : r .covered ≡ true → (r .at + (x - r .start) ≤ flash) × Apart (to + r .start) (x - r .start) (r .at) (x - r .start)
+  pub lent : ((under ≡ 0) × (base + x ≤ flash) × Apart (to + r .start) (x - r .start) (base + r .start) (x - r .start)) ⊎ (x ≤ under)
 
 -- into the flash itself, where the whole begins at an index; with nothing lent to lie under the logs, that begins at another index there
 unfoldable pub movedOver : Run → (x base to : ℕ) → (under flash : List ℕ) → List ℕ
 movedOver r x base to under flash =
-    splice flash (to + x)
-    (if r .covered then part flash (r .at) (r .end - x) else (if empty under then part flash (base + x) (r .end - x) else part under x (r .end - x)))
+    splice flash (to + r .start)
+    (if r .covered then part flash (r .at) (x - r .start)
+    else (if empty under then part flash (base + r .start) (x - r .start) else part under (r .start) (x - r .start)))
 
 -- ---- all runs
 

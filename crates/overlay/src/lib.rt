@@ -5,7 +5,7 @@ ghost use mathlib.Core.Path.{_≡_};
 ghost use mathlib.Core.Bool.{true, _&&_};
 ghost use mathlib.Core.Logic.{_⊎_};
 ghost use mathlib.Core.List.{List, [], _∷_};
-ghost use Prim.Native.Nat.{ℕ, _+_, _-_, _*_, _≤_, _<_, min};
+ghost use Prim.Native.Nat.{ℕ, _+_, _-_, _*_, _≤_, _<_, max};
 ghost use lib.ListN.{length, take, getD};
 ghost use lib.Dec.{leb, ltb, eqb};
 ghost use Rattle.lists.specs.Lists.{if_then_else_, all, splice, part};
@@ -22,17 +22,17 @@ pub struct Extent {
     pub at: usize,
 }
 
-// The bytes of the whole up to `end`; if a log covers them, they lie in the flash from `at` on.
+// The bytes of the whole from `start` on; if a log covers them, they lie in the flash from `at` on.
 pub struct Run {
     pub covered: bool,
     pub at: usize,
-    pub end: usize,
+    pub start: usize,
 }
 
-pub fn smaller(a: usize, b: usize) -> usize
-    ensures { λ r. ⌜ r ≡ min a b ⌝ }
+pub fn larger(a: usize, b: usize) -> usize
+    ensures { λ r. ⌜ r ≡ max a b ⌝ }
 {
-    if a < b { a } else { b }
+    if a < b { b } else { a }
 }
 
 // What the log covers that ends at page k; nothing, if no complete one does.
@@ -56,64 +56,92 @@ fn log_at(z: Sizes, c: usize, k: usize, spare: &[u8]) -> Extent
     Extent { low, high, at }
 }
 
+// Whether it covers the byte before x.
 fn covers(log: Extent, x: usize) -> bool
-    ensures { λ r. ⌜ r ≡ (leb (log .low) x && ltb x (log .high)) ⌝ }
+    ensures { λ r. ⌜ r ≡ (ltb (log .low) x && leb x (log .high)) ⌝ }
 {
-    (log.low <= x) & (x < log.high)
+    (log.low < x) & (x <= log.high)
 }
 
-// A run from x on ends where a later log begins.
-fn shortened(x: usize, end: usize, log: Extent) -> usize
-    ensures { λ r. ⌜ r ≡ (if ltb x (log .low) then min end (log .low) else end) ⌝ }
+// A run up to x starts where a later log ends.
+fn raised(x: usize, start: usize, log: Extent) -> usize
+    ensures { λ r. ⌜ r ≡ (if ltb (log .high) x then max start (log .high) else start) ⌝ }
 {
-    if x < log.low {
-        return smaller(end, log.low);
+    if log.high < x {
+        return larger(start, log.high);
     }
-    end
+    start
 }
 
-// The run from x on, of the logs in the first pages of one bucket, where the others end none. They are looked at from the last on: the first that
-// covers x is the last that does.
-fn run_in(z: Sizes, c: usize, pages: usize, x: usize, stop: usize, spare: &[u8]) -> Run
+// The run up to x, of the logs in the first pages of one bucket, where the others lay nothing before x. They are looked at from the last on: the
+// first that covers the byte before x is the last that does.
+fn run_in(z: Sizes, c: usize, pages: usize, from: usize, x: usize, spare: &[u8]) -> Run
     requires { ⌜ Tagged z (now spare) ⌝ }
-    requires { ⌜ (c < body z) × (x < stop) × (stop ≤ bucketSize z) ⌝ }
-    requires { ⌜ EndsBy z (now spare) c pages ⌝ }
-    ensures { λ r. ⌜ Runs z (now (spare .entry)) (c ∷ []) x stop r ⌝ }
+    requires { ⌜ (c < body z) × (from < x) × (x ≤ bucketSize z) ⌝ }
+    requires { ⌜ EndsBy z (now spare) c x pages ⌝ }
+    ensures { λ r. ⌜ Runs z (now (spare .entry)) (c ∷ []) from x r ⌝ }
 {
-    let mut end = stop;
+    let mut start = from;
     let mut k = pages;
     while 0 < k {
         k -= 1;
         let log = log_at(z, c, k, spare);
         if covers(log, x) {
-            let at = log.at + (x - log.low);
-            let last = smaller(end, log.high);
+            let first = larger(start, log.low);
+            let at = log.at + (first - log.low);
             return Run {
                 covered: true,
                 at,
-                end: last,
+                start: first,
             };
         }
-        end = shortened(x, end, log);
+        start = raised(x, start, log);
     }
     Run {
         covered: false,
         at: 0,
-        end,
+        start,
     }
 }
 
-// How many pages of the newest listed bucket are programmed. Most lists have one bucket, and most of its pages may be blank.
-fn newest_pages(z: Sizes, list: &[u8], spare: &[u8]) -> usize
+// Whether the log lays a byte before x.
+fn reaches(log: Extent, x: usize) -> bool
+    ensures { λ r. ⌜ r ≡ (ltb (log .low) x && ltb (log .low) (log .high)) ⌝ }
+{
+    (log.low < x) & (log.low < log.high)
+}
+
+// The first pages of a bucket without the last of them that lay nothing before x. Logs of data that was written in rising order are left behind so,
+// one after the other.
+fn live_pages(z: Sizes, c: usize, pages: usize, x: usize, spare: &[u8]) -> usize
+    requires { ⌜ Tagged z (now spare) ⌝ }
+    requires { ⌜ c < body z ⌝ }
+    requires { ⌜ EndsBy z (now spare) c x pages ⌝ }
+    ensures { λ r. ⌜ EndsBy z (now (spare .entry)) c x r ⌝ }
+{
+    let mut n = pages;
+    while 0 < n {
+        let log = log_at(z, c, n - 1, spare);
+        if reaches(log, x) {
+            return n;
+        }
+        n -= 1;
+    }
+    n
+}
+
+// The pages of the newest listed bucket, of which most lists have no other, without those that lay nothing before x.
+fn newest_pages(z: Sizes, list: &[u8], pages: usize, x: usize, spare: &[u8]) -> usize
     requires { ⌜ Tagged z (now spare) ⌝ }
     requires { ⌜ all (isBelow (body z)) (now list) ≡ true ⌝ }
-    ensures { λ r. ⌜ (0 < length (now (list .entry)) → EndsBy z (now (spare .entry)) (getD (now (list .entry)) (length (now (list .entry)) - 1) 0) r) ⌝ }
+    requires { ⌜ (0 < length (now list) → EndsBy z (now spare) (getD (now list) (length (now list) - 1) 0) x pages) ⌝ }
+    ensures { λ r. ⌜ (0 < length (now (list .entry)) → EndsBy z (now (spare .entry)) (getD (now (list .entry)) (length (now (list .entry)) - 1) 0) x r) ⌝ }
 {
     let n = list.len();
     if n == 0 {
         return 0;
     }
-    image::programmed(z, list[n - 1] as usize, spare)
+    live_pages(z, list[n - 1] as usize, pages, x, spare)
 }
 
 // The pages to be looked at of the listed bucket j: those programmed, if it is the newest.
@@ -124,29 +152,29 @@ fn pages_at(z: Sizes, j: usize, count: usize, newest: usize) -> usize
     if j == count - 1 { newest } else { z.p }
 }
 
-// The run from x on, of the logs of all listed buckets, the newest last.
-fn run_at(z: Sizes, list: &[u8], newest: usize, x: usize, stop: usize, spare: &[u8]) -> Run
+// The run up to x, of the logs of all listed buckets, the newest last.
+fn run_at(z: Sizes, list: &[u8], newest: usize, from: usize, x: usize, spare: &[u8]) -> Run
     requires { ⌜ Tagged z (now spare) ⌝ }
     requires { ⌜ all (isBelow (body z)) (now list) ≡ true ⌝ }
-    requires { ⌜ (0 < length (now list) → EndsBy z (now spare) (getD (now list) (length (now list) - 1) 0) newest) ⌝ }
-    requires { ⌜ (x < stop) × (stop ≤ bucketSize z) ⌝ }
-    ensures { λ r. ⌜ Runs z (now (spare .entry)) (now (list .entry)) x stop r ⌝ }
+    requires { ⌜ (0 < length (now list) → EndsBy z (now spare) (getD (now list) (length (now list) - 1) 0) x newest) ⌝ }
+    requires { ⌜ (from < x) × (x ≤ bucketSize z) ⌝ }
+    ensures { λ r. ⌜ Runs z (now (spare .entry)) (now (list .entry)) from x r ⌝ }
 {
-    let mut end = stop;
+    let mut start = from;
     let mut j = list.len();
     while 0 < j {
         j -= 1;
         let pages = pages_at(z, j, list.len(), newest);
-        let run = run_in(z, list[j] as usize, pages, x, end, spare);
+        let run = run_in(z, list[j] as usize, pages, start, x, spare);
         if run.covered {
             return run;
         }
-        end = run.end;
+        start = run.start;
     }
     Run {
         covered: false,
         at: 0,
-        end,
+        start,
     }
 }
 
@@ -155,19 +183,19 @@ fn lay_run(run: Run, x: usize, from: usize, flash: &[u8], under: &[u8], window: 
     requires { ⌜ Laid run x from (length (now flash)) (length (now under)) (length (now window)) ⌝ }
     ensures { λ _. ⌜ now (window .exit) ≡ lentOver run x from (now (flash .entry)) (now (under .entry)) (now (window .entry)) ⌝ }
 {
-    let stop = run.end;
+    let start = run.start;
     if run.covered {
         let at = run.at;
-        let end = at + (stop - x);
-        area::write_at(window, x - from, &flash[at..end]);
+        let end = at + (x - start);
+        area::write_at(window, start - from, &flash[at..end]);
         return;
     }
     if under.len() != 0 {
-        area::write_at(window, x - from, &under[x..stop]);
+        area::write_at(window, start - from, &under[start..x]);
     }
 }
 
-// Run by run.
+// Run by run, from the last on.
 fn lay_runs(
     z: Sizes,
     list: &[u8],
@@ -183,13 +211,13 @@ fn lay_runs(
     requires { ⌜ from + length (now window) ≤ bucketSize z ⌝ }
     ensures { λ _. ⌜ ((whole : List ℕ) → length whole ≡ bucketSize z → Shows whole (now (under .entry)) from (now (window .entry)) → now (window .exit) ≡ part (mergeAll z (chip (now (flash .entry)) (now (spare .entry))) (now (list .entry)) whole) from (length (now (window .entry)))) ⌝ }
 {
-    let stop = from + window.len();
-    let newest = newest_pages(z, list, spare);
-    let mut x = from;
-    while x < stop {
-        let run = run_at(z, list, newest, x, stop, spare);
+    let mut newest = z.p;
+    let mut x = from + window.len();
+    while from < x {
+        newest = newest_pages(z, list, newest, x, spare);
+        let run = run_at(z, list, newest, from, x, spare);
         lay_run(run, x, from, flash, under, window);
-        x = run.end;
+        x = run.start;
     }
 }
 
@@ -227,16 +255,16 @@ fn move_run(run: Run, x: usize, base: usize, to: usize, under: &[u8], flash: &mu
     requires { ⌜ Moves run x base to (length (now under)) (length (now flash)) ⌝ }
     ensures { λ _. ⌜ now (flash .exit) ≡ movedOver run x base to (now (under .entry)) (now (flash .entry)) ⌝ }
 {
-    let end = run.end;
+    let start = run.start;
     if run.covered {
-        area::move_within(flash, run.at, to + x, end - x);
+        area::move_within(flash, run.at, to + start, x - start);
         return;
     }
     if under.len() == 0 {
-        area::move_within(flash, base + x, to + x, end - x);
+        area::move_within(flash, base + start, to + start, x - start);
         return;
     }
-    area::write_at(flash, to + x, &under[x..end]);
+    area::write_at(flash, to + start, &under[start..x]);
 }
 
 // The first n bytes of the whole come to stand in the cache bucket `target`: the logs of the listed buckets over the bytes lent to lie under
@@ -260,11 +288,12 @@ pub fn lay_within(
     let size = z.p * z.s;
     let to = target * size;
     let under_at = base * size;
-    let newest = newest_pages(z, list, spare);
-    let mut x = 0;
-    while x < n {
-        let run = run_at(z, list, newest, x, n, spare);
+    let mut newest = z.p;
+    let mut x = n;
+    while 0 < x {
+        newest = newest_pages(z, list, newest, x, spare);
+        let run = run_at(z, list, newest, 0, x, spare);
         move_run(run, x, under_at, to, under, flash);
-        x = run.end;
+        x = run.start;
     }
 }

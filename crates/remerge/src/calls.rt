@@ -37,7 +37,7 @@ fn log_length(seed: u32, size: usize) -> usize
         return size;
     }
     if kind < 4 {
-        return random::below(next, overlay::smaller(size, 8)) + 1;
+        return random::below(next, merge::smaller(size, 8)) + 1;
     }
     random::below(next, size) + 1
 }
@@ -109,7 +109,7 @@ fn any_call(run: Run, z: Sizes, flash: &mut [u8], spare: &mut [u8], disk: &mut [
     requires { ⌜ Limits z ⌝ }
 {
     let seed = random::next(run.seed);
-    let call = drawn(z, seed, overlay::smaller(sizes::bucket(z), 4096));
+    let call = drawn(z, seed, merge::smaller(sizes::bucket(z), 4096));
     let mut bytes = random::bytes(seed);
     let n = call.length;
     let s = run.state;

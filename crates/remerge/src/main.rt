@@ -40,9 +40,9 @@ fn compare_sizes(z: Sizes) -> Tally
     let mut spare = [0u8; 8192];
     let mut disk = [0u8; 8192];
     let bucket = sizes::bucket(z);
-    let chip = overlay::smaller(z.c * bucket, 32768);
-    let tags = overlay::smaller(z.c * z.p * 16, 8192);
-    let end = overlay::smaller(z.b * bucket, 8192);
+    let chip = merge::smaller(z.c * bucket, 32768);
+    let tags = merge::smaller(z.c * z.p * 16, 8192);
+    let end = merge::smaller(z.b * bucket, 8192);
     compare_chips(z, &mut flash[..chip], &mut spare[..tags], &mut disk[..end])
 }
 

@@ -30,7 +30,7 @@ pub fn window_of(z: Sizes, i: usize, seed: u32) -> Window
 {
     let size = sizes::bucket(z);
     if i == 0 {
-        let length = overlay::smaller(size, 4096);
+        let length = merge::smaller(size, 4096);
         return Window { from: 0, length };
     }
     let from = random::below(seed, size);
@@ -38,7 +38,7 @@ pub fn window_of(z: Sizes, i: usize, seed: u32) -> Window
         return Window { from, length: 1 };
     }
     let some = random::below(random::next(seed), size - from) + 1;
-    let length = overlay::smaller(some, 4096);
+    let length = merge::smaller(some, 4096);
     Window { from, length }
 }
 

@@ -13,10 +13,10 @@ use Rattle.overlay.proofs.lay_run.Statement.{statement}
 use Rattle.overlay.proofs.lay_run.Tie as tie
 
 -- bytes lent to lie under the logs are there up to the run's end
-lent-end : (c : tie.Start) → (length (c .args .under .now) ≡ 0 → ⊥) → c .args .run .end ≤ length (c .args .under .now)
+lent-end : (c : tie.Start) → (length (c .args .under .now) ≡ 0 → ⊥) → c .args .x ≤ length (c .args .under .now)
 lent-end c some = go (c .pre .lent)
   where
-    go : (length (c .args .under .now) ≡ 0) ⊎ (c .args .run .end ≤ length (c .args .under .now)) → c .args .run .end ≤ length (c .args .under .now)
+    go : (length (c .args .under .now) ≡ 0) ⊎ (c .args .x ≤ length (c .args .under .now)) → c .args .x ≤ length (c .args .under .now)
     go (inl none) = absurd (some none)
     go (inr h) = h
 
@@ -46,7 +46,7 @@ same-length c = search needs
 
 returns : tie.Need-returns
 unfolding lentOver
-returns c = let a = c .before .before .before .before .before .before .before .before .before .args in rw (c .before .before .before .before .before .if1 .taken, ← lent-part (a .flash .now) (a .run .at) (a .run .end - a .x)) (c .before .before .write-at .ensures)
+returns c = let a = c .before .before .before .before .before .before .before .before .before .args in rw (c .before .before .before .before .before .if1 .taken, ← lent-part (a .flash .now) (a .run .at) (a .x - a .run .start)) (c .before .before .write-at .ensures)
 
 sub-write-at-3 : tie.Need-sub-write-at-3
 sub-write-at-3 c = search needs

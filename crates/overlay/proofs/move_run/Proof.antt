@@ -13,17 +13,17 @@ use Rattle.overlay.proofs.move_run.Statement.{statement}
 use Rattle.overlay.proofs.move_run.Tie as tie
 
 -- what lies under the logs, where it is lent and where it is not
-lent-end : (c : tie.Start) → (length (c .args .under .now) ≡ 0 → ⊥) → c .args .run .end ≤ length (c .args .under .now)
+lent-end : (c : tie.Start) → (length (c .args .under .now) ≡ 0 → ⊥) → c .args .x ≤ length (c .args .under .now)
 lent-end c some = go (c .pre .lent)
   where
-    go : ((length (c .args .under .now) ≡ 0) × (c .args .base + c .args .run .end ≤ length (c .args .flash .now)) × Apart (c .args .to + c .args .x) (c .args .run .end - c .args .x) (c .args .base + c .args .x) (c .args .run .end - c .args .x)) ⊎ (c .args .run .end ≤ length (c .args .under .now)) → c .args .run .end ≤ length (c .args .under .now)
+    go : ((length (c .args .under .now) ≡ 0) × (c .args .base + c .args .x ≤ length (c .args .flash .now)) × Apart (c .args .to + c .args .run .start) (c .args .x - c .args .run .start) (c .args .base + c .args .run .start) (c .args .x - c .args .run .start)) ⊎ (c .args .x ≤ length (c .args .under .now)) → c .args .x ≤ length (c .args .under .now)
     go (inl none) = absurd (some (none .0))
     go (inr h) = h
 
-unlent : (c : tie.Start) → length (c .args .under .now) ≡ 0 → (c .args .base + c .args .run .end ≤ length (c .args .flash .now)) × Apart (c .args .to + c .args .x) (c .args .run .end - c .args .x) (c .args .base + c .args .x) (c .args .run .end - c .args .x)
+unlent : (c : tie.Start) → length (c .args .under .now) ≡ 0 → (c .args .base + c .args .x ≤ length (c .args .flash .now)) × Apart (c .args .to + c .args .run .start) (c .args .x - c .args .run .start) (c .args .base + c .args .run .start) (c .args .x - c .args .run .start)
 unlent c none = go (c .pre .lent)
   where
-    go : ((length (c .args .under .now) ≡ 0) × (c .args .base + c .args .run .end ≤ length (c .args .flash .now)) × Apart (c .args .to + c .args .x) (c .args .run .end - c .args .x) (c .args .base + c .args .x) (c .args .run .end - c .args .x)) ⊎ (c .args .run .end ≤ length (c .args .under .now)) → (c .args .base + c .args .run .end ≤ length (c .args .flash .now)) × Apart (c .args .to + c .args .x) (c .args .run .end - c .args .x) (c .args .base + c .args .x) (c .args .run .end - c .args .x)
+    go : ((length (c .args .under .now) ≡ 0) × (c .args .base + c .args .x ≤ length (c .args .flash .now)) × Apart (c .args .to + c .args .run .start) (c .args .x - c .args .run .start) (c .args .base + c .args .run .start) (c .args .x - c .args .run .start)) ⊎ (c .args .x ≤ length (c .args .under .now)) → (c .args .base + c .args .x ≤ length (c .args .flash .now)) × Apart (c .args .to + c .args .run .start) (c .args .x - c .args .run .start) (c .args .base + c .args .run .start) (c .args .x - c .args .run .start)
     go (inl w) = (w .1, w .2)
     go (inr h) = absurd (omega (arith, c .pre .some))
 

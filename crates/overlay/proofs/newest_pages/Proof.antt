@@ -1,7 +1,4 @@
-use Rattle.overlay.proofs.Found.{listed, ends-programmed}
-use Rattle.image.proofs.First.{formed-bucket}
-use Rattle.image.specs.Chip.{spareOnly}
-use Rattle.model.proofs.Limits.{on-chip}
+use Rattle.overlay.proofs.Found.{listed}
 use Rattle.model.specs.Sizes.{body}
 use lib.ListN.{length}
 use native.Mathlib.Omega.{arith}
@@ -11,33 +8,32 @@ use Rattle.overlay.proofs.newest_pages.Statement.{statement}
 use Rattle.overlay.proofs.newest_pages.Tie as tie
 
 returns : tie.Need-returns
-returns c = λ some. absurd (omega (arith, some, c .if1 .taken))
+returns c = search needs
 
-sub-programmed : tie.Need-sub-programmed
-sub-programmed c = omega (arith, c .if1 .left)
+sub-live-pages : tie.Need-sub-live-pages
+sub-live-pages c = search needs
 
-shared-slice-read-programmed : tie.Need-shared-slice-read-programmed
-shared-slice-read-programmed c = omega (arith, c .before .if1 .left)
+shared-slice-read-live-pages : tie.Need-shared-slice-read-live-pages
+shared-slice-read-live-pages c = search needs
 
-cast-programmed : tie.Need-cast-programmed
-cast-programmed c = omega (arith, c .shared-slice-known3 .given (length (c .before .before .before .before .args .list .now) - 1))
+cast-live-pages : tie.Need-cast-live-pages
+cast-live-pages c = omega (arith, c .shared-slice-known3 .given (length (c .before .before .before .before .args .list .now) - 1))
 
-programmed-requires : tie.Need-programmed-requires
-programmed-requires c κs = let start = c .before .before .before .before in let p = start .pre in let a = start .args in
-    let inside = listed (body (a .z)) (a .list .now) (p .1) (length (a .list .now) - 1) (omega (arith, c .before .if1 .left)) in
-    (record { limits = p .0 .limits; spare-length = p .0 .spare-length }, (on-chip (a .z) _ inside, formed-bucket (a .z) (spareOnly (a .spare .now)) (p .0 .well-formed) _ inside))
+live-pages-requires : tie.Need-live-pages-requires
+live-pages-requires c κs = let start = c .before .before .before .before in let p = start .pre in let a = start .args in
+    let some : 0 < length (a .list .now) = omega (arith, c .before .if1 .left) in
+    (p .0, (listed (body (a .z)) (a .list .now) (p .1 .0) (length (a .list .now) - 1) (omega arith), p .1 .1 some))
 
 returns-2 : tie.Need-returns-2
-returns-2 c = let start = c .before .before .before .before .before in let a = start .args in
-    λ some. ends-programmed (listed (body (a .z)) (a .list .now) (start .pre .1) (length (a .list .now) - 1) (omega (arith, some))) (c .programmed .ensures)
+returns-2 c = search needs
 
 pub newest-pages-spec : {M : Type 1} → statement M
 newest-pages-spec =
     tie.close
     (tie.spec
     returns
-    sub-programmed
-    shared-slice-read-programmed
-    cast-programmed
-    programmed-requires
+    sub-live-pages
+    shared-slice-read-live-pages
+    cast-live-pages
+    live-pages-requires
     returns-2)

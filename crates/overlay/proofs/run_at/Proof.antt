@@ -9,15 +9,15 @@ use Rattle.overlay.proofs.run_at.Statement.{statement}
 use Rattle.overlay.proofs.run_at.Tie as tie
 
 abbrev Inv-loop : tie.InvT-loop
-Inv-loop z list newest x stop spare end₀ j₀ end j = (j ≤ length list) × (x < end) × (end ≤ stop) × Among z spare list x end j
+Inv-loop z list newest from x spare start₀ j₀ start j = (j ≤ length list) × (start < x) × (from ≤ start) × Among z spare list start x j
 
 abbrev μ-loop : tie.MeasureT-loop
-μ-loop z list newest x stop spare end₀ j₀ end j = j
+μ-loop z list newest from x spare start₀ j₀ start j = j
 
 loop-holds : tie.Need-loop-holds Inv-loop μ-loop
 loop-holds c =
     let a = c .before .before .args in
-    (le-refl (length (a .list .now)), c .before .before .pre .1 .1 .1 .0, le-refl (a .stop), among-all (a .z) (a .spare .now) (a .list .now) (a .x) (a .stop))
+    (le-refl (length (a .list .now)), c .before .before .pre .1 .1 .1 .0, le-refl (a .«from»), among-all (a .z) (a .spare .now) (a .list .now) (a .«from») (a .x))
 
 sub-j : tie.Need-sub-j Inv-loop μ-loop
 sub-j c = omega (arith, c .loop-test .taken)
@@ -38,7 +38,7 @@ run-in-requires c κs =
     let list = start .args .list .now in
     let l = c .before .before .before .loop in
     let here : l .j - 1 < length list = omega (arith, c .before .before .loop-test .taken, l .inv .0) in
-    (p .0, ((listed (body (start .args .z)) list (p .1 .0) (l .j - 1) here, l .inv .1, omega (arith, l .inv .2, p .1 .1 .1 .1)), rw (c .before .pages-at .ensures) (ends-at list (p .1 .1 .0) (l .j - 1) here)))
+    (p .0, ((listed (body (start .args .z)) list (p .1 .0) (l .j - 1) here, l .inv .1, p .1 .1 .1 .1), rw (c .before .pages-at .ensures) (ends-at list (p .1 .1 .0) (l .j - 1) here)))
 
 returns : tie.Need-returns Inv-loop μ-loop
 returns c =
@@ -46,7 +46,7 @@ returns c =
     let l = c .before .before .before .before .before .loop in
     let some = c .before .before .before .before .loop-test .taken in
     let up : l .j - 1 + 1 ≡ l .j = omega (arith, some) in
-    let among : Among (start .args .z) (start .args .spare .now) (start .args .list .now) (start .args .x) (l .end) (l .j - 1 + 1) = rw up (l .inv .3) in
+    let among : Among (start .args .z) (start .args .spare .now) (start .args .list .now) (l .start) (start .args .x) (l .j - 1 + 1) = rw up (l .inv .3) in
     list-found (start .args .list .now) (start .pre .1 .0) (l .inv .2) (omega (arith, some, l .inv .0)) among (c .before .run-in .ensures) (c .if1 .taken)
 
 loop-less : tie.Need-loop-less Inv-loop μ-loop
@@ -58,11 +58,11 @@ loop-again c =
     let l = c .before .before .before .before .before .loop in
     let some = c .before .before .before .before .loop-test .taken in
     let up : l .j - 1 + 1 ≡ l .j = omega (arith, some) in
-    let among : Among (start .args .z) (start .args .spare .now) (start .args .list .now) (start .args .x) (l .end) (l .j - 1 + 1) = rw up (l .inv .3) in
+    let among : Among (start .args .z) (start .args .spare .now) (start .args .list .now) (l .start) (start .args .x) (l .j - 1 + 1) = rw up (l .inv .3) in
     let run = c .before .run-in .ensures in (
       omega (arith, l .inv .0),
       run .some,
-      omega (arith, run .most, l .inv .2),
+      omega (arith, run .least, l .inv .2),
       list-passed (start .args .list .now) (start .pre .1 .0) (l .inv .2) (omega (arith, some, l .inv .0)) among run (c .if1 .left),
     )
 
