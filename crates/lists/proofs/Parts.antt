@@ -7,7 +7,7 @@ use native.Mathlib.Omega.{arith}
 use native.Mathlib.Nat.{add-assoc}
 use native.Mathlib.Decide.{decLt}
 use lib.ListN.{length, take, drop, getD, length-append, length-take, length-drop, List·getD-append, List·getD-eq-default, length-replicate, getD-replicate}
-use lib.Seq.{take-all, getD-take, getD-drop, getD-append-add, ext-getD, length-take-le}
+use lib.Seq.{getD-take, getD-drop, getD-append-add, ext-getD, length-take-le}
 use Rattle.lists.specs.Lists.{part, splice, ff}
 
 module _ (l : List ℕ) (i : ℕ) (bs : List ℕ) (fits : i + length bs ≤ length l) where

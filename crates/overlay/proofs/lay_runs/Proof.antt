@@ -13,7 +13,7 @@ use native.Mathlib.Nat.{le-refl}
 use mathlib.Core.List.{List}
 use mathlib.Core.Logic.{_⊎_, inl, inr}
 use mathlib.Core.Path.{_≡_, refl, sym, _∙_}
-use Prim.Native.Nat.{ℕ, _+_, _-_, _*_, _≤_, _<_}
+use Prim.Native.Nat.{ℕ, _+_, _-_, _≤_, _<_}
 use Rattle.overlay.proofs.lay_runs.Statement.{statement}
 use Rattle.overlay.proofs.lay_runs.Tie as tie
 

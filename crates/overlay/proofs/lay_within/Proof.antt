@@ -12,7 +12,7 @@ use lib.ListN.{length, getD}
 use native.Mathlib.Nat.{le-refl, add-zero, sub-zero}
 use native.Mathlib.Omega.{arith}
 use mathlib.Core.Path.{_≡_, refl, sym}
-use Prim.Native.Nat.{ℕ, _+_, _-_, _*_, _≤_, _<_}
+use Prim.Native.Nat.{_+_, _-_, _*_, _≤_, _<_}
 use Rattle.overlay.proofs.lay_within.Statement.{statement}
 use Rattle.overlay.proofs.lay_within.Tie as tie
 

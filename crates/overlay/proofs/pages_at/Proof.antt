@@ -1,7 +1,6 @@
 use borrow.Author.Tests.{eq-eqb, ne-eqb}
 use native.Mathlib.Omega.{arith}
 use Prim.Native.Nat.{_-_}
-use borrow.Author.Needs.{needs}
 use Rattle.overlay.proofs.pages_at.Statement.{statement}
 use Rattle.overlay.proofs.pages_at.Tie as tie
 

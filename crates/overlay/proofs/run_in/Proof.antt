@@ -5,7 +5,7 @@ use Rattle.geometry.proofs.Passed.{products}
 use Rattle.model.specs.Sizes.{bucketSize}
 use native.Mathlib.Omega.{arith}
 use native.Mathlib.Nat.{le-refl}
-use mathlib.Core.Path.{_≡_, refl, sym, _∙_}
+use mathlib.Core.Path.{_≡_, sym, _∙_}
 use Prim.Native.Nat.{_+_, _-_, _≤_, _<_}
 use Rattle.overlay.proofs.run_in.Statement.{statement}
 use Rattle.overlay.proofs.run_in.Tie as tie
