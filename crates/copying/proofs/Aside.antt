@@ -3,14 +3,13 @@ use Prim.Native.Nat.{ℕ, _+_, _≤_, _<_}
 use mathlib.Core.Path.{_≡_, refl}
 use mathlib.Core.Bool.{true, false}
 use mathlib.Core.Logic.{_⊎_, inl, inr, _≢_}
-use mathlib.Core.List.{List}
 use native.Mathlib.Omega.{arith}
 use native.Mathlib.Decide.{decLt}
 use lib.Dec.{ltb}
 use borrow.Author.Tests.{lt-ltb, le-ltb, not-true}
-use Rattle.lists.specs.Lists.{if_then_else_, empty, head, member, times}
+use Rattle.lists.specs.Lists.{if_then_else_, empty, member, times}
 use Rattle.lists.proofs.Tests.{every-at, true-or-false}
-use Rattle.lists.proofs.Counts.{times-self, times-rest, empty-length, times-member}
+use Rattle.lists.proofs.Counts.{head-in, empty-length, times-member}
 use Rattle.model.specs.Sizes.{Device, body}
 use Rattle.model.specs.State.{State, holds, cacheOf, cachesOf, caches, queued, stateFits}
 use Rattle.model.proofs.Queues.{maps-times, times-left}
@@ -32,17 +31,14 @@ fits-single s d h c = go (decLt c (body (s .sizes)))
     go (no u) = let e : places s c ≡ 0 = rw (le-ltb c (body (s .sizes)) (omega arith)) at once in omega (arith, places-queued s c, e)
 
 module _ (s : State) (ready : Ready s) (single : Single s) where
-  head-stands : (l : List ℕ) → empty l ≡ false → 1 ≤ times (head l) l
-  head-stands l h = omega (arith, times-rest (head l) l h, times-self (head l))
-
   room-stands : 1 ≤ times (roomOf s .bucket) (s .gc) + times (roomOf s .bucket) (s .free)
   unfolding roomOf
   room-stands = go (true-or-false (empty (s .free))) (true-or-false (empty (s .gc)))
     where
       go : (empty (s .free) ≡ true) ⊎ (empty (s .free) ≡ false) → (empty (s .gc) ≡ true) ⊎ (empty (s .gc) ≡ false)
           → 1 ≤ times (roomOf s .bucket) (s .gc) + times (roomOf s .bucket) (s .free)
-      go (inr e) g = rw e (omega (arith, head-stands (s .free) e))
-      go (inl e) (inr g) = rw e (omega (arith, head-stands (s .gc) g))
+      go (inr e) g = rw e (omega (arith, head-in (s .free) e))
+      go (inl e) (inr g) = rw e (omega (arith, head-in (s .gc) g))
       go (inl e) (inl g) = absurd (omega (arith, ready .some, empty-length (s .free) e, empty-length (s .gc) g))
 
   no-queued : (c : ℕ) → 1 ≤ times c (caches (s .reads)) + times c (caches (s .writes)) → c ≢ roomOf s .bucket

@@ -52,6 +52,10 @@ head-rest (x ∷ l) h = refl
 pub times-rest : (x : ℕ) (l : List ℕ) → empty l ≡ false → times x l ≡ times x (head l ∷ []) + times x (drop 1 l)
 times-rest x l h = ap (times x) (head-rest l h) ∙ times-cons x (head l) (drop 1 l)
 
+-- the first of a list stands in it
+pub head-in : (l : List ℕ) → empty l ≡ false → 1 ≤ times (head l) l
+head-in l h = omega (arith, times-rest (head l) l h, times-self (head l))
+
 pub times-only : (x y : ℕ) → 1 ≤ times x (y ∷ []) → x ≡ y
 times-only x y t = go (ℕ-discrete x y)
   where

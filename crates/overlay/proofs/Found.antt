@@ -19,7 +19,7 @@ use Rattle.model.specs.declared.Sizes.{Sizes}
 use Rattle.model.specs.Sizes.{Device, bucketSize, flashSize, body}
 use Rattle.model.specs.Spare.{blank}
 use Rattle.model.specs.Stores.{tagOf}
-use Rattle.model.specs.Image.{endsLog, mergeTo, merge}
+use Rattle.model.specs.Image.{endsLog, mergeTo, merge, blanks}
 use Rattle.model.specs.State.{isBelow}
 use Rattle.model.specs.Recover.{mergeAll}
 use Rattle.model.proofs.Limits.{on-chip}
@@ -31,7 +31,7 @@ use Rattle.overlay.specs.declared.Extent.{Extent}
 use Rattle.overlay.specs.declared.Run.{Run}
 use Rattle.overlay.specs.Window.{chip, Tagged, Readable, LogPlace, logPart}
 use Rattle.overlay.specs.Runs.{Lays, EndsBy, Runs}
-use Rattle.overlay.proofs.Logs.{in-flash, merged-length, log-place, log-laid, ends-last, log-lacking}
+use Rattle.overlay.proofs.Logs.{in-flash, merged-length, log-place, log-laid, ends-last, log-lacking, merged-programmed}
 
 -- ---- one page
 
@@ -178,8 +178,12 @@ module _ {z : Sizes} {spare : List ℕ} {c from start x k : ℕ} {e : Extent} (s
 pub above-end : {z : Sizes} {spare : List ℕ} {c n x : ℕ} (start : ℕ) → EndsBy z spare c x n → Above z spare c start x n
 above-end start ends flash base r s i l m = ends .rest flash base r s i m
 
-pub ends-all : (z : Sizes) (spare : List ℕ) (c x : ℕ) → EndsBy z spare c x (z .p)
-ends-all z spare c x = record { most = le-refl (z .p); rest = λ flash base r s i m. refl }
+-- no log ends in the blank pages
+pub ends-programmed : {z : Sizes} {spare : List ℕ} {c n : ℕ} (x : ℕ) → c < body z → n ≡ z .p - blanks z (spareOnly spare) c → EndsBy z spare c x n
+ends-programmed {z} {spare} {c} {n} x bucket e = record {
+  most = omega (arith, e);
+  rest = λ flash base r s i m. ap (λ (w : List ℕ). getD w i 0) (sym (ap (mergeTo z (chip flash spare) c base) e ∙ merged-programmed r bucket base));
+}
 
 -- what holds before x holds before less
 pub ends-less : {z : Sizes} {spare : List ℕ} {c n x : ℕ} (y : ℕ) → y ≤ x → EndsBy z spare c x n → EndsBy z spare c y n
@@ -284,10 +288,12 @@ unfolding mergeAll
 list-none some least among = record { some = some; least = least; inside = λ t. absurd (true≢false (sym t)); over = λ t. absurd (true≢false (sym t)); beside = λ t. among }
 
 -- the pages to be looked at of each listed bucket
-pub ends-at : {z : Sizes} {spare : List ℕ} {newest x : ℕ} (list : List ℕ) → (0 < length list → EndsBy z spare (getD list (length list - 1) 0) x newest) → (j : ℕ) → j < length list
-    → EndsBy z spare (getD list j 0) x (if eqb j (length list - 1) then newest else z .p)
-ends-at {z} {spare} {newest} {x} list last j h = go (true-or-false (eqb j (length list - 1)))
+pub ends-at : {z : Sizes} {spare : List ℕ} {newest x : ℕ} (list : List ℕ) → all (isBelow (body z)) list ≡ true
+    → (0 < length list → EndsBy z spare (getD list (length list - 1) 0) x newest) → (j : ℕ) → j < length list
+    → EndsBy z spare (getD list j 0) x (if eqb j (length list - 1) then newest else z .p - blanks z (spareOnly spare) (getD list j 0))
+ends-at {z} {spare} {newest} {x} list below last j h = go (true-or-false (eqb j (length list - 1)))
   where
-    go : (eqb j (length list - 1) ≡ true) ⊎ (eqb j (length list - 1) ≡ false) → EndsBy z spare (getD list j 0) x (if eqb j (length list - 1) then newest else z .p)
+    go : (eqb j (length list - 1) ≡ true) ⊎ (eqb j (length list - 1) ≡ false)
+        → EndsBy z spare (getD list j 0) x (if eqb j (length list - 1) then newest else z .p - blanks z (spareOnly spare) (getD list j 0))
     go (inl e) = rw e (rw (← eqb-true j (length list - 1) e) at (last (omega arith)))
-    go (inr e) = rw e (ends-all z spare (getD list j 0) x)
+    go (inr e) = rw e (ends-programmed x (listed (body z) list below j h) refl)

@@ -10,7 +10,9 @@ ghost use lib.ListN.{length, take, getD};
 ghost use lib.Dec.{leb, ltb, eqb};
 ghost use Rattle.lists.specs.Lists.{if_then_else_, all, splice, part};
 ghost use Rattle.model.specs.Sizes.{bucketSize, body};
+ghost use Rattle.model.specs.Image.{blanks};
 ghost use Rattle.model.specs.State.{isBelow};
+ghost use Rattle.image.specs.Chip.{spareOnly};
 ghost use Rattle.model.specs.Recover.{mergeAll};
 ghost use Rattle.overlay.specs.Window.{Turns, Tagged, Readable, chip};
 ghost use Rattle.overlay.specs.Runs.{Lays, EndsBy, Runs, Laid, lentOver, Moves, movedOver, Shows, beneath, Aside};
@@ -130,8 +132,21 @@ fn live_pages(z: Sizes, c: usize, pages: usize, x: usize, spare: &[u8]) -> usize
     n
 }
 
-// The pages of the newest listed bucket, of which most lists have no other, without those that lay nothing before x.
-fn newest_pages(z: Sizes, list: &[u8], pages: usize, x: usize, spare: &[u8]) -> usize
+// How many pages of the newest listed bucket are programmed; most lists have no other.
+fn newest_pages(z: Sizes, list: &[u8], spare: &[u8]) -> usize
+    requires { ⌜ Tagged z (now spare) ⌝ }
+    requires { ⌜ all (isBelow (body z)) (now list) ≡ true ⌝ }
+    ensures { λ r. ⌜ ((x : ℕ) → 0 < length (now (list .entry)) → EndsBy z (now (spare .entry)) (getD (now (list .entry)) (length (now (list .entry)) - 1) 0) x r) ⌝ }
+{
+    let n = list.len();
+    if n == 0 {
+        return 0;
+    }
+    image::programmed(z, list[n - 1] as usize, spare)
+}
+
+// Those of them without the last that lay nothing before x.
+fn newest_live(z: Sizes, list: &[u8], pages: usize, x: usize, spare: &[u8]) -> usize
     requires { ⌜ Tagged z (now spare) ⌝ }
     requires { ⌜ all (isBelow (body z)) (now list) ≡ true ⌝ }
     requires { ⌜ (0 < length (now list) → EndsBy z (now spare) (getD (now list) (length (now list) - 1) 0) x pages) ⌝ }
@@ -144,12 +159,16 @@ fn newest_pages(z: Sizes, list: &[u8], pages: usize, x: usize, spare: &[u8]) -> 
     live_pages(z, list[n - 1] as usize, pages, x, spare)
 }
 
-// The pages to be looked at of the listed bucket j: those programmed, if it is the newest.
-fn pages_at(z: Sizes, j: usize, count: usize, newest: usize) -> usize
-    requires { ⌜ j < count ⌝ }
-    ensures { λ r. ⌜ r ≡ (if eqb j (count - 1) then newest else z .p) ⌝ }
+// The pages to be looked at of the listed bucket j: those programmed, and of the newest as many of them as are left.
+fn pages_at(z: Sizes, list: &[u8], j: usize, newest: usize, spare: &[u8]) -> usize
+    requires { ⌜ Tagged z (now spare) ⌝ }
+    requires { ⌜ (all (isBelow (body z)) (now list) ≡ true) × (j < length (now list)) ⌝ }
+    ensures { λ r. ⌜ r ≡ (if eqb j (length (now (list .entry)) - 1) then newest else z .p - blanks z (spareOnly (now (spare .entry))) (getD (now (list .entry)) j 0)) ⌝ }
 {
-    if j == count - 1 { newest } else { z.p }
+    if j == list.len() - 1 {
+        return newest;
+    }
+    image::programmed(z, list[j] as usize, spare)
 }
 
 // The run up to x, of the logs of all listed buckets, the newest last.
@@ -164,7 +183,7 @@ fn run_at(z: Sizes, list: &[u8], newest: usize, from: usize, x: usize, spare: &[
     let mut j = list.len();
     while 0 < j {
         j -= 1;
-        let pages = pages_at(z, j, list.len(), newest);
+        let pages = pages_at(z, list, j, newest, spare);
         let run = run_in(z, list[j] as usize, pages, start, x, spare);
         if run.covered {
             return run;
@@ -211,10 +230,10 @@ fn lay_runs(
     requires { ⌜ from + length (now window) ≤ bucketSize z ⌝ }
     ensures { λ _. ⌜ ((whole : List ℕ) → length whole ≡ bucketSize z → Shows whole (now (under .entry)) from (now (window .entry)) → now (window .exit) ≡ part (mergeAll z (chip (now (flash .entry)) (now (spare .entry))) (now (list .entry)) whole) from (length (now (window .entry)))) ⌝ }
 {
-    let mut newest = z.p;
+    let mut newest = newest_pages(z, list, spare);
     let mut x = from + window.len();
     while from < x {
-        newest = newest_pages(z, list, newest, x, spare);
+        newest = newest_live(z, list, newest, x, spare);
         let run = run_at(z, list, newest, from, x, spare);
         lay_run(run, x, from, flash, under, window);
         x = run.start;
@@ -288,10 +307,10 @@ pub fn lay_within(
     let size = z.p * z.s;
     let to = target * size;
     let under_at = base * size;
-    let mut newest = z.p;
+    let mut newest = newest_pages(z, list, spare);
     let mut x = n;
     while 0 < x {
-        newest = newest_pages(z, list, newest, x, spare);
+        newest = newest_live(z, list, newest, x, spare);
         let run = run_at(z, list, newest, 0, x, spare);
         move_run(run, x, under_at, to, under, flash);
         x = run.start;

@@ -7,7 +7,7 @@ use native.Mathlib.Omega.{arith}
 use lib.ListN.{length}
 use Rattle.lists.specs.Lists.{if_then_else_, head, empty, member, part}
 use Rattle.lists.proofs.Tests.{or-right}
-use Rattle.lists.proofs.Counts.{mem-times}
+use Rattle.lists.proofs.Counts.{mem-times, head-in}
 use Rattle.lists.proofs.Orders.{times-sort}
 use Rattle.model.specs.declared.Sizes.{Sizes}
 use Rattle.model.specs.Sizes.{Device, bucketSize, diskSize, body}
@@ -28,7 +28,7 @@ use Rattle.overlay.proofs.SameChip.{same-merge-all}
 use Rattle.classes.specs.Columns.{nowhere, inOrder, column}
 use Rattle.rescue.specs.Sources.{Recoverable}
 use Rattle.rescue.specs.Beside.{beside}
-use Rattle.rescue.proofs.Standing.{head-in, flushed-stands, logs-beside, copy-beside}
+use Rattle.rescue.proofs.Standing.{flushed-stands, logs-beside, copy-beside}
 
 -- ---- what the spare area alone says
 

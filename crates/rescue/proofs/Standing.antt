@@ -11,7 +11,7 @@ use borrow.Author.Tests.{lt-ltb, eq-eqb, eqb-true}
 use Rattle.lists.specs.Lists.{if_then_else_, all, keep, below, head, empty, member, times}
 use Rattle.lists.proofs.Tests.{and-left, and-right, and-true, or-left, or-second, or-cases, same-truth}
 use Rattle.lists.proofs.Rows.{length-row}
-use Rattle.lists.proofs.Counts.{in-all, times-rest, times-self, empty-times}
+use Rattle.lists.proofs.Counts.{in-all, head-in, empty-times}
 use Rattle.lists.proofs.Orders.{any-in, in-any, kept-in, in-kept, length-sort}
 use Rattle.lists.proofs.Arrays.{keep-length}
 use Rattle.model.specs.declared.Sizes.{Sizes}
@@ -28,9 +28,6 @@ use Rattle.classes.specs.Columns.{nowhere, inOrder, named, column}
 use Rattle.classes.proofs.Orders.{filtered, in-order, from-order}
 use Rattle.classes.proofs.Columns.{standsFor, named-is, member-column}
 use Rattle.rescue.specs.Beside.{beside, isUnwritten}
-
-pub head-in : (l : List ℕ) → empty l ≡ false → 1 ≤ times (head l) l
-head-in l h = omega (arith, times-rest (head l) l h, times-self (head l))
 
 some-in : (x : ℕ) (l : List ℕ) → 1 ≤ times x l → empty l ≡ false
 some-in x l h = go (empty l) refl

@@ -1,4 +1,4 @@
-use Rattle.overlay.proofs.Found.{ends-all, ends-less}
+use Rattle.overlay.proofs.Found.{ends-less}
 use Rattle.overlay.proofs.Woven.{tagged-of, stored, lent-step, lent-all}
 use Rattle.overlay.specs.Runs.{EndsBy, Shows}
 use Rattle.overlay.specs.Window.{chip}
@@ -41,31 +41,34 @@ lent-run c end h = go (c .pre .1 .1 .0)
     go (inr all) = inr (omega arith)
 
 add-x : tie.Need-add-x Inv-loop μ-loop
-add-x c = omega (arith, small (c .before .before .before .before .before))
+add-x c = omega (arith, small (c .before .before .before .before .before .before))
+
+newest-pages-requires : tie.Need-newest-pages-requires Inv-loop μ-loop
+newest-pages-requires c κs = let start = c .before .before .before .before .before in (tagged-of (start .pre .0), start .pre .1 .0)
 
 loop-holds : tie.Need-loop-holds Inv-loop μ-loop
 unfolding part
 loop-holds c =
-    let a = c .before .before .before .before .before .args in
+    let a = c .before .before .before .before .before .before .args in
     let none : a .«from» + length (a .window .now) - (a .«from» + length (a .window .now)) ≡ 0 = omega arith in (
       omega arith,
       le-refl (a .«from» + length (a .window .now)),
       refl,
-      λ some. ends-all (a .z) (a .spare .now) (getD (a .list .now) (length (a .list .now) - 1) 0) (a .«from» + length (a .window .now)),
+      λ some. c .newest-pages .ensures (a .«from» + length (a .window .now)) some,
       λ whole size shows. rw none (sym (splice-none (a .window .now) (a .«from» + length (a .window .now) - a .«from»))),
     )
 
-newest-pages-requires : tie.Need-newest-pages-requires Inv-loop μ-loop
-newest-pages-requires c κs = let start = c .before .before .before .before .before .before .before in (tagged-of (start .pre .0), (start .pre .1 .0, c .before .loop .inv .3))
+newest-live-requires : tie.Need-newest-live-requires Inv-loop μ-loop
+newest-live-requires c κs = let start = c .before .before .before .before .before .before .before .before in (tagged-of (start .pre .0), (start .pre .1 .0, c .before .loop .inv .3))
 
 run-at-requires : tie.Need-run-at-requires Inv-loop μ-loop
 run-at-requires c κs =
-    let start = c .before .before .before .before .before .before .before .before in
-    (tagged-of (start .pre .0), (start .pre .1 .0, (c .newest-pages .ensures, (c .before .loop-test .taken, omega (arith, c .before .before .loop .inv .1, start .pre .1 .1 .1)))))
+    let start = c .before .before .before .before .before .before .before .before .before in
+    (tagged-of (start .pre .0), (start .pre .1 .0, (c .newest-live .ensures, (c .before .loop-test .taken, omega (arith, c .before .before .loop .inv .1, start .pre .1 .1 .1)))))
 
 lay-run-requires : tie.Need-lay-run-requires Inv-loop μ-loop
 lay-run-requires c κs =
-    let start = c .before .before .before .before .before .before .before .before .before .before in
+    let start = c .before .before .before .before .before .before .before .before .before .before .before in
     let l = c .before .before .before .before .loop in
     let runs = c .before .run-at .ensures in
     record {
@@ -81,14 +84,14 @@ loop-less c = omega (arith, c .before .before .before .before .run-at .ensures .
 
 loop-again : tie.Need-loop-again Inv-loop μ-loop
 loop-again c =
-    let start = c .before .before .before .before .before .before .before .before .before .before .before .before .before in
+    let start = c .before .before .before .before .before .before .before .before .before .before .before .before .before .before in
     let l = c .before .before .before .before .before .before .before .loop in
     let runs = c .before .before .before .before .run-at .ensures in
     let a = start .args in (
       runs .least,
       omega (arith, runs .some, l .inv .1),
       omega (arith, c .before .window .given, l .inv .2),
-      λ some. ends-less (c .before .before .before .before .run-at .result .start) (omega (arith, runs .some)) (c .before .before .before .before .before .newest-pages .ensures some),
+      λ some. ends-less (c .before .before .before .before .run-at .result .start) (omega (arith, runs .some)) (c .before .before .before .before .before .newest-live .ensures some),
       λ whole size shows.
           rw (c .before .before .lay-run .ensures)
           (lent-step (start .pre .0) (a .list .now) (start .pre .1 .0) whole size (a .«from») (start .pre .1 .1 .1) shows (l .inv .1) runs (l .inv .4 whole size shows)),
@@ -99,7 +102,7 @@ same-length c = let l = c .before .loop in omega (arith, l .inv .2)
 
 returns : tie.Need-returns Inv-loop μ-loop
 returns c =
-    let start = c .before .before .before .before .before .before .before in
+    let start = c .before .before .before .before .before .before .before .before in
     let l = c .before .loop in
     let a = start .args in
     λ whole size shows.
@@ -114,9 +117,10 @@ lay-runs-spec =
     (tie.spec
     Inv-loop
     μ-loop
+    newest-pages-requires
     add-x
     loop-holds
-    newest-pages-requires
+    newest-live-requires
     run-at-requires
     lay-run-requires
     loop-less

@@ -1,4 +1,4 @@
-use Rattle.overlay.proofs.Found.{ends-all, ends-less}
+use Rattle.overlay.proofs.Found.{ends-less}
 use Rattle.overlay.proofs.Woven.{tagged-of, moves, moved-step}
 use Rattle.overlay.specs.Runs.{EndsBy, beneath}
 use Rattle.overlay.specs.Window.{chip}
@@ -34,29 +34,32 @@ mul-to c = let start = c .before .before .before .before .before in omega (arith
 mul-under-at : tie.Need-mul-under-at Inv-loop μ-loop
 mul-under-at c = let start = c .before .before .before .before .before in omega (arith, nth-inside (start .args .base) (start .args .z .c) (start .args .z .p * start .args .z .s) (start .pre .1 .1 .0 .1), products (start .pre .0 .limits) .flash)
 
+newest-pages-requires : tie.Need-newest-pages-requires Inv-loop μ-loop
+newest-pages-requires c κs = let start = c .before .before .before .before .before in (tagged-of (start .pre .0), start .pre .1 .0)
+
 loop-holds : tie.Need-loop-holds Inv-loop μ-loop
 unfolding part
 loop-holds c =
-    let a = c .before .before .before .before .before .args in
+    let a = c .before .before .before .before .before .before .args in
     let none : a .n - a .n ≡ 0 = omega arith in (
       le-refl (a .n),
       refl,
-      λ some. ends-all (a .z) (a .spare .now) (getD (a .list .now) (length (a .list .now) - 1) 0) (a .n),
+      λ some. c .newest-pages .ensures (a .n) some,
       rw none (sym (splice-none (a .flash .now) (a .target * bucketSize (a .z) + a .n))),
     )
 
-newest-pages-requires : tie.Need-newest-pages-requires Inv-loop μ-loop
-newest-pages-requires c κs = let start = c .before .before .before .before .before .before .before in (tagged-of (start .pre .0), (start .pre .1 .0, c .before .loop .inv .2))
+newest-live-requires : tie.Need-newest-live-requires Inv-loop μ-loop
+newest-live-requires c κs = let start = c .before .before .before .before .before .before .before .before in (tagged-of (start .pre .0), (start .pre .1 .0, c .before .loop .inv .2))
 
 run-at-requires : tie.Need-run-at-requires Inv-loop μ-loop
 run-at-requires c κs =
-    let start = c .before .before .before .before .before .before .before .before in
-    (tagged-of (start .pre .0), (start .pre .1 .0, (c .newest-pages .ensures, (c .before .loop-test .taken, omega (arith, c .before .before .loop .inv .0, start .pre .1 .1 .0 .2)))))
+    let start = c .before .before .before .before .before .before .before .before .before in
+    (tagged-of (start .pre .0), (start .pre .1 .0, (c .newest-live .ensures, (c .before .loop-test .taken, omega (arith, c .before .before .loop .inv .0, start .pre .1 .1 .0 .2)))))
 
 move-run-requires : tie.Need-move-run-requires Inv-loop μ-loop
 unfolding bucketSize
 move-run-requires c κs =
-    let start = c .before .before .before .before .before .before .before .before .before .before in
+    let start = c .before .before .before .before .before .before .before .before .before .before .before in
     let p = start .pre in
     let l = c .before .before .before .before .loop in
     moves (p .0) (start .args .list .now) (p .1 .0) (start .args .under .now) (p .1 .1 .0 .0) (p .1 .1 .0 .1) (p .1 .1 .0 .2) (p .1 .1 .1) (l .inv .0) (c .before .run-at .ensures) (l .flash) (l .inv .1)
@@ -67,13 +70,13 @@ loop-less c = omega (arith, c .before .before .before .before .run-at .ensures .
 loop-again : tie.Need-loop-again Inv-loop μ-loop
 unfolding bucketSize
 loop-again c =
-    let start = c .before .before .before .before .before .before .before .before .before .before .before .before .before in
+    let start = c .before .before .before .before .before .before .before .before .before .before .before .before .before .before in
     let p = start .pre in
     let l = c .before .before .before .before .before .before .before .loop in
     let runs = c .before .before .before .before .run-at .ensures in (
       omega (arith, runs .some, l .inv .0),
       omega (arith, c .before .flash .given, l .inv .1),
-      λ some. ends-less (c .before .before .before .before .run-at .result .start) (omega (arith, runs .some)) (c .before .before .before .before .before .newest-pages .ensures some),
+      λ some. ends-less (c .before .before .before .before .run-at .result .start) (omega (arith, runs .some)) (c .before .before .before .before .before .newest-live .ensures some),
       rw (c .before .before .move-run .ensures)
           (moved-step (p .0) (start .args .list .now) (p .1 .0) (start .args .under .now) (p .1 .1 .0 .0) (p .1 .1 .0 .1) (p .1 .1 .0 .2) (p .1 .1 .1) (l .inv .0) runs (l .inv .3)),
     )
@@ -85,7 +88,7 @@ returns : tie.Need-returns Inv-loop μ-loop
 unfolding part
 returns c =
     let l = c .before .loop in
-    let a = c .before .before .before .before .before .before .before .args in
+    let a = c .before .before .before .before .before .before .before .before .args in
     let none : l .x ≡ 0 = omega (arith, c .loop-test .left) in
     rw (none, add-zero (a .target * bucketSize (a .z)), sub-zero (a .n)) at (l .inv .3)
 
@@ -98,8 +101,9 @@ lay-within-spec =
     mul-size
     mul-to
     mul-under-at
-    loop-holds
     newest-pages-requires
+    loop-holds
+    newest-live-requires
     run-at-requires
     move-run-requires
     loop-less

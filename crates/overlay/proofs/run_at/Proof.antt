@@ -23,7 +23,7 @@ sub-j : tie.Need-sub-j Inv-loop μ-loop
 sub-j c = omega (arith, c .loop-test .taken)
 
 pages-at-requires : tie.Need-pages-at-requires Inv-loop μ-loop
-pages-at-requires c κs = omega (arith, c .loop-test .taken, c .before .loop .inv .0)
+pages-at-requires c κs = let start = c .before .before .before .before in (start .pre .0, (start .pre .1 .0, omega (arith, c .loop-test .taken, c .before .loop .inv .0)))
 
 shared-slice-read-run-in : tie.Need-shared-slice-read-run-in Inv-loop μ-loop
 shared-slice-read-run-in c = omega (arith, c .before .before .loop-test .taken, c .before .before .before .loop .inv .0)
@@ -38,7 +38,7 @@ run-in-requires c κs =
     let list = start .args .list .now in
     let l = c .before .before .before .loop in
     let here : l .j - 1 < length list = omega (arith, c .before .before .loop-test .taken, l .inv .0) in
-    (p .0, ((listed (body (start .args .z)) list (p .1 .0) (l .j - 1) here, l .inv .1, p .1 .1 .1 .1), rw (c .before .pages-at .ensures) (ends-at list (p .1 .1 .0) (l .j - 1) here)))
+    (p .0, ((listed (body (start .args .z)) list (p .1 .0) (l .j - 1) here, l .inv .1, p .1 .1 .1 .1), rw (c .before .pages-at .ensures) (ends-at list (p .1 .0) (p .1 .1 .0) (l .j - 1) here)))
 
 returns : tie.Need-returns Inv-loop μ-loop
 returns c =
