@@ -25,7 +25,8 @@ use Rattle.meter.specs.Run.{Run, running, runAll}
 use Rattle.meter.proofs.Runs.{run-append}
 use Rattle.steps.specs.Ready.{Ready}
 use Rattle.gather.specs.Sources.{Sources}
-use Rattle.gather.proofs.Gathered.{merged-all, logs-below}
+use Rattle.gather.proofs.Gathered.{merged-all}
+use Rattle.steps.proofs.Inside.{listed-inside}
 use Rattle.copying.specs.Fresh.{roomOf, erases, freshStores, Single}
 use Rattle.copying.specs.Laid.{found, underBytes, listedBytes, Laid}
 use Rattle.copying.proofs.Aside.{no-read, no-write, not-listed}
@@ -69,7 +70,7 @@ module _ {s : State} {b : ℕ} {flash spare disk flash' spare' disk' : List ℕ}
     well-formed = same-well-formed (s .sizes) (device flash' spare' disk') ∙ unmoved .formed (sym (same-well-formed (s .sizes) (device flash spare disk)) ∙ sources .well-formed);
     back = sources .back;
     bucket = room-inside (s .sizes) s (device flash spare disk) ready;
-    logs = logs-below (body (s .sizes)) b (s .writes) (sources .write);
+    logs = listed-inside (body (s .sizes)) b (s .writes) (sources .write);
     logs-aside = not-listed s ready single b;
     read = sources .read;
     read-aside = no-read s ready single b;

@@ -6,14 +6,12 @@ use mathlib.Core.Bool.{Bool, true, false}
 use mathlib.Core.List.{List, [], _∷_}
 use native.Mathlib.Nat.{le-refl}
 use lib.ListN.{length}
-use borrow.Author.Tests.{lt-ltb}
-use Rattle.lists.specs.Lists.{if_then_else_, all, part}
+use Rattle.lists.specs.Lists.{if_then_else_, part}
 use Rattle.model.specs.declared.Sizes.{Sizes}
-use Rattle.model.specs.declared.Entry.{Entry}
 use Rattle.model.specs.Sizes.{Device, bucketSize, body}
 use Rattle.model.specs.Stores.{bucketBytes, diskBytes}
 use Rattle.model.specs.Image.{wellFormed, merge}
-use Rattle.model.specs.State.{State, holds, cacheOf, cachesOf, isBelow}
+use Rattle.model.specs.State.{State, holds, cacheOf, cachesOf}
 use Rattle.model.specs.Steps.{baseBytes, merged}
 use Rattle.model.specs.Recover.{mergeAll}
 use Rattle.model.proofs.Frames.{Lengths, length-bucket, length-disk}
@@ -82,15 +80,6 @@ merged-all z s d b = at (holds b (s .writes))
   where
     at : (t : Bool) → (if t then merge z d (cacheOf b (s .writes)) (baseBytes z s d b) else baseBytes z s d b) ≡ mergeAll z d (if t then cacheOf b (s .writes) ∷ [] else []) (baseBytes z s d b)
     at true = refl
-    at false = refl
-
--- the listed Write bucket is one that may stand in queues
-pub logs-below : (n b : ℕ) (l : List Entry) → cacheOf b l < n → all (isBelow n) (cachesOf b l) ≡ true
-unfolding cachesOf all isBelow
-logs-below n b l h = at (holds b l)
-  where
-    at : (t : Bool) → all (isBelow n) (if t then cacheOf b l ∷ [] else []) ≡ true
-    at true = rw (lt-ltb (cacheOf b l) n h)
     at false = refl
 
 -- the merged bytes by where the base lies

@@ -39,13 +39,17 @@ module _ (c : ℕ) where
         at true k = ltb-true (e .cache) c (and-left (isBelow c (e .cache)) (all (isBelow c) (caches l)) h)
         at false k = k
 
-    pub caches-inside : (l : List Entry) → all (isBelow c) (caches l) ≡ true → 0 < c → all (isBelow c) (cachesOf b l) ≡ true
+    -- its cache bucket, as a list of none or of one
+    pub listed-inside : (l : List Entry) → cacheOf b l < c → all (isBelow c) (cachesOf b l) ≡ true
     unfolding cachesOf all
-    caches-inside l h some = at (holds b l)
+    listed-inside l h = at (holds b l)
       where
         at : (t : Bool) → all (isBelow c) (if t then cacheOf b l ∷ [] else []) ≡ true
-        at true = one-inside (cacheOf b l) (cache-inside l h some)
+        at true = one-inside (cacheOf b l) h
         at false = refl
+
+    pub caches-inside : (l : List Entry) → all (isBelow c) (caches l) ≡ true → 0 < c → all (isBelow c) (cachesOf b l) ≡ true
+    caches-inside l h some = listed-inside l (cache-inside l h some)
 
     pub others-inside : (l : List Entry) → all (isBelow c) (caches l) ≡ true → all (isBelow c) (caches (without b l)) ≡ true
     unfolding all caches cacheBucket without keep isOther

@@ -1,4 +1,5 @@
-use Rattle.gather.proofs.Gathered.{logs-below, over-read, over-disk}
+use Rattle.steps.proofs.Inside.{listed-inside}
+use Rattle.gather.proofs.Gathered.{over-read, over-disk}
 use Rattle.state.specs.View.{placesOf}
 use Rattle.queue.specs.View.{entriesOf}
 use Rattle.geometry.proofs.Places.{bucket-data}
@@ -40,7 +41,7 @@ lay-piece-requires : tie.Need-lay-piece-requires
 unfolding bucketSize
 lay-piece-requires c κs = let start = c .before .before .before .before .before .before .before .before .before .before .before in let p = start .pre in let z = start .args .s .sizes in let found = c .before .before .before .before .find in
     let read : found .result .cache < z .c = on-chip z _ (rw (found .ensures .1) (p .1 .0 .0)) in
-    (p .0, (rw (c .before .before .before .before .before .before .logs-of .ensures .1) (logs-below (body z) (start .args .b) (entriesOf (start .args .s .writes)) (p .1 .0 .1)), (omega (arith, bucket-data z (found .result .cache) read, p .0 .flash-length), omega (arith, p .1 .1))))
+    (p .0, (rw (c .before .before .before .before .before .before .logs-of .ensures .1) (listed-inside (body z) (start .args .b) (entriesOf (start .args .s .writes)) (p .1 .0 .1)), (omega (arith, bucket-data z (found .result .cache) read, p .0 .flash-length), omega (arith, p .1 .1))))
 
 array-share-prefix-list-2 : tie.Need-array-share-prefix-list-2
 array-share-prefix-list-2 c = let w = c .before .before .before .logs-of in
@@ -54,7 +55,7 @@ slice-aggregate-lay-over c = let w = c .before .before .before .before .logs-of 
 
 lay-over-requires : tie.Need-lay-over-requires
 lay-over-requires c κs = let start = c .before .before .before .before .before .before .before .before .before .before in let p = start .pre in let z = start .args .s .sizes in
-    (p .0, (rw (c .before .before .before .before .before .logs-of .ensures .1) (logs-below (body z) (start .args .b) (entriesOf (start .args .s .writes)) (p .1 .0 .1)), omega (arith, p .1 .1)))
+    (p .0, (rw (c .before .before .before .before .before .logs-of .ensures .1) (listed-inside (body z) (start .args .b) (entriesOf (start .args .s .writes)) (p .1 .0 .1)), omega (arith, p .1 .1)))
 
 same-length : tie.Need-same-length
 same-length c = search needs

@@ -1,4 +1,5 @@
-use Rattle.gather.proofs.Gathered.{readable, logs-below, over-read, over-disk}
+use Rattle.steps.proofs.Inside.{listed-inside}
+use Rattle.gather.proofs.Gathered.{readable, over-read, over-disk}
 use Rattle.state.specs.View.{placesOf}
 use Rattle.queue.specs.View.{entriesOf}
 use Rattle.geometry.proofs.Places.{nth-inside, bucket-data}
@@ -36,7 +37,7 @@ lay-piece-requires : tie.Need-lay-piece-requires
 unfolding bucketSize
 lay-piece-requires c κs = let start = c .before .before .before .before .before .before .before .before .before .before .before .before in let p = start .pre .0 in let z = start .args .s .sizes in let found = c .before .before .before .before .find in
     let read : found .result .cache < z .c = on-chip z _ (rw (found .ensures .1) (p .read)) in
-    (readable p, (rw (c .before .before .before .before .before .before .logs-of .ensures .1) (logs-below (body z) (start .args .b) (entriesOf (start .args .s .writes)) (p .write)), (omega (arith, bucket-data z (found .result .cache) read, p .lent .flash-length), start .pre .1)))
+    (readable p, (rw (c .before .before .before .before .before .before .logs-of .ensures .1) (listed-inside (body z) (start .args .b) (entriesOf (start .args .s .writes)) (p .write)), (omega (arith, bucket-data z (found .result .cache) read, p .lent .flash-length), start .pre .1)))
 
 array-share-prefix-list-2 : tie.Need-array-share-prefix-list-2
 array-share-prefix-list-2 c = let w = c .before .before .before .logs-of in
@@ -51,7 +52,7 @@ slice-aggregate-lay-piece-2 c = let w = c .before .before .before .before .logs-
 lay-piece-requires-2 : tie.Need-lay-piece-requires-2
 unfolding diskSize
 lay-piece-requires-2 c κs = let start = c .before .before .before .before .before .before .before .before .before .before .before in let p = start .pre .0 in let z = start .args .s .sizes in
-    (readable p, (rw (c .before .before .before .before .before .logs-of .ensures .1) (logs-below (body z) (start .args .b) (entriesOf (start .args .s .writes)) (p .write)), (omega (arith, nth-inside (start .args .b) (z .b) (bucketSize z) (p .back), p .lent .disk-length), start .pre .1)))
+    (readable p, (rw (c .before .before .before .before .before .logs-of .ensures .1) (listed-inside (body z) (start .args .b) (entriesOf (start .args .s .writes)) (p .write)), (omega (arith, nth-inside (start .args .b) (z .b) (bucketSize z) (p .back), p .lent .disk-length), start .pre .1)))
 
 same-length : tie.Need-same-length
 same-length c = search needs

@@ -1,7 +1,4 @@
 use Rattle.overlay.proofs.Found.{listed, ends-programmed}
-use Rattle.image.proofs.First.{formed-bucket}
-use Rattle.image.specs.Chip.{spareOnly}
-use Rattle.model.proofs.Limits.{on-chip}
 use Rattle.model.specs.Sizes.{body}
 use lib.ListN.{length}
 use native.Mathlib.Omega.{arith}
@@ -13,31 +10,15 @@ use Rattle.overlay.proofs.newest_pages.Tie as tie
 returns : tie.Need-returns
 returns c = search needs
 
-sub-programmed : tie.Need-sub-programmed
-sub-programmed c = search needs
+sub-programmed-at : tie.Need-sub-programmed-at
+sub-programmed-at c = search needs
 
-shared-slice-read-programmed : tie.Need-shared-slice-read-programmed
-shared-slice-read-programmed c = search needs
-
-cast-programmed : tie.Need-cast-programmed
-cast-programmed c = omega (arith, c .shared-slice-known3 .given (length (c .before .before .before .before .args .list .now) - 1))
-
-programmed-requires : tie.Need-programmed-requires
-programmed-requires c κs = let start = c .before .before .before .before in let p = start .pre in let a = start .args in
-    let inside = listed (body (a .z)) (a .list .now) (p .1) (length (a .list .now) - 1) (omega (arith, c .before .if1 .left)) in
-    (record { limits = p .0 .limits; spare-length = p .0 .spare-length }, (on-chip (a .z) _ inside, formed-bucket (a .z) (spareOnly (a .spare .now)) (p .0 .well-formed) _ inside))
+programmed-at-requires : tie.Need-programmed-at-requires
+programmed-at-requires c κs = search needs
 
 returns-2 : tie.Need-returns-2
-returns-2 c = let start = c .before .before .before .before .before in let a = start .args in
-    λ x some. ends-programmed x (listed (body (a .z)) (a .list .now) (start .pre .1) (length (a .list .now) - 1) (omega (arith, some))) (c .programmed .ensures)
+returns-2 c = let start = c .before .before .before .before in let a = start .args in
+    λ x some. ends-programmed x (listed (body (a .z)) (a .list .now) (start .pre .1) (length (a .list .now) - 1) (omega (arith, some))) (c .programmed-at .ensures)
 
 pub newest-pages-spec : {M : Type 1} → statement M
-newest-pages-spec =
-    tie.close
-    (tie.spec
-    returns
-    sub-programmed
-    shared-slice-read-programmed
-    cast-programmed
-    programmed-requires
-    returns-2)
+newest-pages-spec = tie.close (tie.spec returns sub-programmed-at programmed-at-requires returns-2)
