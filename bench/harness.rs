@@ -143,8 +143,8 @@ const ROWS: [Row; 9] = [
         ..LARGE
     },
     Row {
-        name: "recover, 256 occupied",
-        what: "an image with all 256 in use, most of them superseded",
+        name: "recover, 254 occupied",
+        what: "an image with all outside the ledger in use, most of them superseded",
         work: Work::Recoveries,
         before: 400,
         count: 500,

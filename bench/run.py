@@ -30,8 +30,8 @@ PLOT = os.path.join(ROOT, "docs", "benchmark.svg")
 
 # From the smallest pages and buckets to chips that fill the flash or the disk buffer.
 DRIVING_SIZES = [
-    Sizes(4, 1, 8, 16, 3, 4), Sizes(16, 8, 32, 32, 8, 16),
-    Sizes(64, 64, 6, 4, 2, 2), Sizes(16, 4, 256, 256, 64, 64),
+    Sizes(4, 1, 10, 16, 3, 4), Sizes(16, 8, 32, 32, 8, 16),
+    Sizes(64, 64, 6, 4, 1, 2), Sizes(16, 4, 256, 256, 64, 64),
     Sizes(1024, 1, 31, 16, 10, 10),
 ]
 PROFILES = {"calm": "calm", "mixed": "wide", "recovery-heavy": "recovery"}

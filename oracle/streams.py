@@ -32,7 +32,7 @@ def long_input(seed):
         for kind in KINDS:
             text += make_input(seed, kind, index, 1000).rstrip(b"\n") + b"\n"
         index += 1
-    return text + b"01FFFF03F004000800040304\n" + b"02FFFF000000000FC0\n" * 100 + b"06FFFF"
+    return text + b"01FFFF03F004000800040203\n" + b"02FFFF000000000FC0\n" * 100 + b"06FFFF"
 
 
 def feed(fd, text):

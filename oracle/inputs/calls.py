@@ -11,17 +11,22 @@ Sizes = collections.namedtuple("Sizes", "S P C B R W")
 
 # Sizes that fill the flash or the disk buffer to the last byte, or nearly.
 FULL = [
-    Sizes(16, 4, 256, 256, 64, 64), Sizes(48, 8, 64, 42, 20, 20), Sizes(112, 64, 4, 2, 1, 2),
-    Sizes(240, 16, 8, 4, 3, 3), Sizes(496, 8, 8, 4, 2, 5), Sizes(1008, 4, 8, 4, 3, 4),
+    Sizes(16, 4, 256, 256, 64, 64), Sizes(48, 8, 64, 42, 20, 20), Sizes(48, 64, 8, 5, 2, 3),
+    Sizes(240, 16, 8, 4, 3, 2), Sizes(496, 8, 8, 4, 1, 4), Sizes(1008, 4, 8, 4, 2, 3),
     Sizes(1024, 1, 31, 16, 10, 10), Sizes(4, 1, 256, 4096, 64, 64), Sizes(4, 6, 256, 682, 64, 64),
-    Sizes(64, 64, 6, 4, 2, 2), Sizes(154, 64, 3, 1, 1, 1), Sizes(4, 64, 25, 64, 8, 8),
+    Sizes(64, 64, 6, 4, 1, 2), Sizes(86, 64, 5, 2, 1, 1), Sizes(4, 64, 25, 64, 8, 8),
 ]
+
+
+def queued(z):
+    """How many cache buckets the queues hold: all but the last two, which are the erase ledger."""
+    return z.C - 2
 
 
 def fits(z):
     """Whether the sizes keep every limit and the program's buffers."""
     return (4 <= z.S <= 1024 and 1 <= z.P <= 64 and 3 <= z.C <= 256 and 1 <= z.B <= 65535
-            and 1 <= z.R <= 64 and 1 <= z.W <= 64 and z.R + z.W + 1 <= z.C
+            and 1 <= z.R <= 64 and 1 <= z.W <= 64 and z.R + z.W + 3 <= z.C
             and z.C * z.P * (z.S + SPARE_BYTES) <= FLASH_BYTES and z.B * z.P * z.S <= DISK_BYTES)
 
 
@@ -48,12 +53,12 @@ class Kind:
 
 def small_sizes(rng):
     r, w = rng.randint(1, 4), rng.randint(1, 4)
-    return Sizes(rng.choice([4, 5, 7, 8, 16, 33]), rng.randint(1, 6), r + w + rng.randint(1, 6),
+    return Sizes(rng.choice([4, 5, 7, 8, 16, 33]), rng.randint(1, 6), r + w + 2 + rng.randint(1, 6),
                  rng.randint(1, 12), r, w)
 
 
 def tiny_sizes(rng):
-    return Sizes(rng.choice([4, 4, 5]), rng.choice([1, 1, 2, 3]), rng.choice([3, 3, 4]),
+    return Sizes(rng.choice([4, 4, 5]), rng.choice([1, 1, 2, 3]), rng.choice([5, 5, 6]),
                  rng.randint(1, 4), 1, rng.choice([1, 1, 2]))
 
 
@@ -63,14 +68,14 @@ def wide_sizes(rng):
     s, p = rng.choice([4, 8, 32, 100, 255, 256, 512, 1000, 1024]), rng.choice([1, 2, 5, 16, 33, 63, 64])
     most_c = min(256, FLASH_BYTES // (p * (s + SPARE_BYTES)))
     most_b = min(65535, DISK_BYTES // (p * s))
-    c = rng.randint(3, max(3, most_c))
-    r = rng.randint(1, max(1, min(64, c - 2)))
-    return Sizes(s, p, c, rng.randint(1, max(1, most_b)), r, rng.randint(1, max(1, min(64, c - r - 1))))
+    c = rng.randint(5, max(5, most_c))
+    r = rng.randint(1, max(1, min(64, c - 4)))
+    return Sizes(s, p, c, rng.randint(1, max(1, most_b)), r, rng.randint(1, max(1, min(64, c - r - 3))))
 
 
 def queue_sizes(rng):
     w = rng.randint(3, 10)
-    return Sizes(rng.choice([4, 8]), rng.randint(4, 16), w + 3 + rng.randint(1, 4),
+    return Sizes(rng.choice([4, 8]), rng.randint(4, 16), w + 5 + rng.randint(1, 4),
                  rng.randint(w + 1, w + 8), rng.randint(1, 3), w)
 
 
@@ -99,6 +104,7 @@ class Calls:
         self.sizes = None     # of the last format that should be Done
         self.hot = []         # back-end buckets asked for often
         self.screen = []      # hot ones that are read next, as on a screen
+        self.short = False    # whether the last allowance was short
         self.stopped = False  # whether the last short allowance may have cut
 
     def frame(self, op, allowance, fields):
@@ -138,9 +144,10 @@ class Calls:
     def allowance(self, op):
         rng = self.rng
         pages = self.sizes.P if self.sizes else 2
-        if rng.random() < self.kind.short:
+        self.short = rng.random() < self.kind.short
+        if self.short:
             self.stopped = True
-            most = 2 * pages + 2 if op in (2, 3) else 1 if op == 4 else 3 * pages + 1
+            most = 2 * pages + 5 if op in (2, 3) else 2 if op == 4 else 3 * pages + 3
             return rng.randint(0, most)
         if op == 6:
             self.stopped = False

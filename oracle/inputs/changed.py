@@ -2,9 +2,9 @@
 
 from inputs.calls import PLENTY, Sizes, fitting, small_sizes, tiny_sizes
 from inputs.forge import forge_pages, forge_state, tied
-from inputs.images import any_logs, fill, made_up, odd_blanks, queue_up, some_epochs
+from inputs.images import any_logs, fill, made_up, odd_blanks, queue_up, some_epochs, tear_named
 from inputs.lists import honest_situation, recovery
-from inputs.probes import ON_CHIP, RUNNING, good_call, page_look, show_all, show_something, some_units, write
+from inputs.probes import ON_CHIP, RUNNING, call, good_call, page_look, show_all, show_something, some_units, write
 from inputs.rich import any_copy, rich_sizes
 from inputs.situation import format_line, formatted, show_page
 
@@ -37,7 +37,7 @@ def any_calls(rng, z, wanted=()):
     lines = []
     for _ in range(rng.randint(2, 12)):
         op = rng.choice([*RUNNING, 0x02, 0x03, 0x03, 0x06, 0x16])
-        allowance = rng.choice([PLENTY, PLENTY, PLENTY, rng.randint(0, 2 * z.P + 2)])
+        allowance = rng.choice([PLENTY, PLENTY, PLENTY, rng.randint(0, 2 * z.P + 5)])
         lines.append(good_call(rng, z, op, allowance, wanted))
         if rng.random() < 0.3:
             lines.append(show_something(rng, z))
@@ -70,7 +70,7 @@ def state(rng, ask):
 def other_sizes(rng):
     """A state of other sizes with the same lengths: calls go by it, but recovery and lines 12 to 15 do not."""
     times, r, w = rng.choice([2, 3]), rng.randint(1, 2), rng.randint(1, 2)
-    few = Sizes(4, rng.randint(1, 3), r + w + rng.randint(1, 3), rng.randint(1, 4), r, w)
+    few = Sizes(4, rng.randint(1, 3), r + w + 2 + rng.randint(1, 3), rng.randint(1, 4), r, w)
     many = few._replace(P=few.P * times)
     few = few._replace(C=few.C * times, B=few.B * times)
     one, other = rng.sample([few, many], 2)
@@ -88,7 +88,7 @@ def chip(rng, ask):
 
 def crowded_sizes(rng):
     """Queues of the most entries there may be, and more buckets than they hold."""
-    return Sizes(4, rng.choice([1, 2]), rng.randint(129, 200), rng.randint(60, 200), 64, 64)
+    return Sizes(4, rng.choice([1, 2]), rng.randint(131, 200), rng.randint(60, 200), 64, 64)
 
 
 def made_up_chip(rng):
@@ -101,16 +101,31 @@ def made_up_chip(rng):
     all_shown = show_all(z) if (z.C + z.B) * z.P <= 60 else []
     what = rng.choice(["recovered", "called", "changed"])
     if what == "recovered":
-        return before + recovery(rng, z) + all_shown + any_calls(rng, z)
+        found = situation.copy()
+        tear_named(rng, found)
+        swept = swept_in_turn(found) if rng.random() < 0.5 else []
+        return before + situation.lines_to(found) + swept + recovery(rng, z) + all_shown + any_calls(rng, z)
     if what == "called":
         return before + any_calls(rng, z, situation.written()) + all_shown
     return changed(rng, before, situation, forge_pages, ON_CHIP)
 
 
+def swept_in_turn(found):
+    """The recovery of one image again and again, cut before each of its erases in turn."""
+    z, lines, lost = found.sizes, [], found.copy()
+    buckets = sorted({found.spare(*place)["back_end"] for place in found.entries()} | set(found.ledger()))
+    lost.pages.update(dict.fromkeys((bucket, page) for bucket in buckets for page in range(z.P)))
+    for allowance in range(len(buckets)):
+        lines.append(call(0x06, allowance))
+        lines += [show_page(bucket, page) for bucket in buckets for page in found.used(bucket)[-1:]]
+        lines += lost.lines_to(found)
+    return lines
+
+
 def victims(rng):
     """A full write queue in any order, all priorities alike, some of it marked, and writes for which one after the
     other goes."""
-    z = Sizes(4, rng.randint(1, 3), rng.randint(8, 10), 9, 2, rng.randint(2, 4))
+    z = Sizes(4, rng.randint(1, 3), rng.randint(10, 12), 9, 2, rng.randint(2, 4))
     situation, back_ends = formatted(z), rng.sample(range(z.B), z.B)
     for bucket, epoch in enumerate(some_epochs(rng, z.W + z.R)):
         pages = (any_logs(rng, z, epoch, back_ends[bucket]) if bucket < z.W

@@ -83,7 +83,7 @@ class Script(Calls):
         edge = rng.choice([
             {"S": 3}, {"S": 0}, {"S": 1025}, {"S": 0xFFFF}, {"P": 0}, {"P": 65}, {"P": 255}, {"C": 0},
             {"C": 2}, {"C": 257}, {"C": 0xFFFF}, {"B": 0}, {"B": 0xFFFF}, {"R": 0}, {"R": 65}, {"W": 0},
-            {"W": 65}, {"R": 255, "W": 255}, {"C": z.R + z.W}, {"C": z.R + z.W + 1}])
+            {"W": 65}, {"R": 255, "W": 255}, {"C": z.R + z.W + 2}, {"C": z.R + z.W + 3}])
         return self.odd_format(z._replace(**edge))
 
     def beyond_buffers(self):

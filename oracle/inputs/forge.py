@@ -1,7 +1,8 @@
 """Random changes of a state or of pages, most of them small."""
 
+from inputs.calls import queued
 from inputs.form import BLANK, QUEUES, SPARE
-from inputs.images import EPOCH_END, LAST_EPOCH, entry_for
+from inputs.images import EPOCH_END, LAST_EPOCH, entry_for, ledger_entry, tear
 
 
 def forge_state(rng, situation):
@@ -65,7 +66,7 @@ def an_entry(rng, situation):
     others = [other[name] for other in entries if name in other]
     values = {
         "back_end": [rng.randrange(z.B), z.B, 65535, min(entry[name] + 1, 65535)],
-        "bucket": [rng.randrange(z.C), min(z.C, 255), 255, min(entry[name] + 1, 255)],
+        "bucket": [rng.randrange(z.C), rng.choice(situation.ledger()), min(z.C, 255), 255, min(entry[name] + 1, 255)],
         "mark": [0, 1, 2, 255],
     }.get(name, [0, z.P - 1, z.P, z.P + 1, 255])
     entry[name] = rng.choice(others + values)
@@ -214,6 +215,36 @@ def copied(rng, situation):
     situation.pages[one] = situation.pages[two]
 
 
+def noted(rng, situation):
+    """A page of the ledger, most often the one that comes next, has an entry for some bucket, most often of its epoch."""
+    z, bucket = situation.sizes, rng.randrange(queued(situation.sizes))
+    used = situation.used(bucket)
+    epoch = situation.spare(bucket, used[0])["epoch"] if used and rng.random() < 0.8 else rng.choice([0, 1, LAST_EPOCH])
+    in_use = max(situation.ledger(), key=lambda c: len(situation.used(c)))
+    page = min(len(situation.used(in_use)), z.P - 1)
+    if rng.random() < 0.3:
+        in_use, page = rng.choice(situation.ledger()), rng.randrange(z.P)
+    situation.put(in_use, page, ledger_entry(bucket, epoch))
+    return bucket
+
+
+def torn(rng, situation):
+    """A bucket whose erase was begun, and stopped halfway."""
+    tear(rng, situation, noted(rng, situation))
+
+
+def ledger_torn(rng, situation):
+    tear(rng, situation, rng.choice(situation.ledger()))
+
+
+def ledger_field(rng, situation):
+    """One field of one entry."""
+    if situation.entries():
+        name, width = rng.choice(SPARE)
+        place = rng.choice(situation.entries())
+        situation.change(*place, **{name: near(rng, situation, place, name, width)})
+
+
 def some_page(rng, situation):
     """A page whose spare area has fields to change."""
     places = [place for place, (spare, _) in situation.pages.items() if spare != BLANK]
@@ -225,9 +256,9 @@ def near(rng, situation, place, name, width):
     z, now = situation.sizes, situation.spare(*place)[name]
     other = situation.spare(*some_page(rng, situation))[name]
     value = rng.choice([now + 1, now - 1, 0, 1, other, other, rng.randrange(2 ** (8 * width)),
-                        {"kind": 4, "back_end": z.B, "pages": z.P, "ordinal": z.P}.get(name, z.P * z.S)])
+                        {"kind": 4, "back_end": rng.choice([z.B, queued(z)]), "pages": z.P, "ordinal": z.P}.get(name, z.P * z.S)])
     return value % 2 ** (8 * width)
 
 
 PAGE_CHANGES = [a_field, a_field, some_fields, a_bucket_field, a_bucket_field, a_bucket_epoch, a_byte,
-                some_data, blanked, cut_short, copied]
+                some_data, blanked, cut_short, copied, noted, torn, torn, ledger_torn, ledger_field]

@@ -1,9 +1,10 @@
 """Images made up by the page rules, and states that fit them."""
 
+from inputs.calls import queued
 from inputs.form import BLANK, QUEUES, spare_text
 from inputs.situation import formatted
 
-READ, WRITE, DIRTY = 1, 2, 3
+READ, WRITE, DIRTY, ENTRY = 1, 2, 3, 4
 LAST_EPOCH = 2 ** 32 - 1
 EPOCH_END = LAST_EPOCH + 1
 
@@ -17,6 +18,12 @@ def log(kind, epoch, back_end, offset, length, pages):
 
 def copy_of(z, kind, epoch, back_end):
     return log(kind, epoch, back_end, 0, z.P * z.S, z.P)
+
+
+def ledger_entry(bucket, epoch):
+    """The spare area of an entry for a bucket."""
+    spare, = log(ENTRY, epoch, bucket, 0, 1, 1)
+    return spare
 
 
 def any_log(rng, z, epoch, back_end, pages):
@@ -62,14 +69,41 @@ def made_up(rng, z):
     situation = formatted(z)
     back_ends = [rng.randrange(z.B) for _ in range(rng.choice([rng.randint(1, 4), z.C // 2, 2 * z.B]))]
     writes = rng.choice([0.3, 0.5, 0.8])
-    for bucket, epoch in enumerate(some_epochs(rng, z.C)):
+    for bucket, epoch in enumerate(some_epochs(rng, queued(z))):
         fill(rng, situation, bucket, any_bucket(rng, z, epoch, rng.choice(back_ends), writes))
+    any_ledger(rng, situation, rng.choice([0, 0, 0.3, 1]))
     if rng.random() < 0.5:
         odd_blanks(rng, situation)
     queue_up(rng, situation)
     situation.state.values.update(count=rng.choice([0, 14, 15, rng.randrange(16)]),
                                   epoch=next_epoch(rng, situation))
     return situation
+
+
+def any_ledger(rng, situation, named):
+    """Entries on the first pages of one ledger bucket; so many of them name a bucket by its epoch."""
+    z, spares = situation.sizes, []
+    for _ in range(rng.choice([0, z.P, rng.randint(0, z.P)])):
+        bucket = rng.randrange(queued(z))
+        first = situation.spare(bucket, 0)
+        epoch = first["epoch"] if first else 0
+        others = [other for other in (0, *situation.epochs()) if other != epoch]
+        spares.append(ledger_entry(bucket, epoch if rng.random() < named else rng.choice(others or [0])))
+    fill(rng, situation, rng.choice(situation.ledger()), spares)
+
+
+def tear(rng, situation, bucket):
+    """An erase of the bucket that stopped halfway: some of its pages are blank."""
+    for page in situation.used(bucket):
+        if rng.random() < 0.5:
+            situation.pages[bucket, page] = (BLANK, "FF" * situation.sizes.S)
+
+
+def tear_named(rng, situation):
+    """Erases of the buckets that entries are for, and of the ledger, that stopped halfway."""
+    buckets = {situation.spare(*place)["back_end"] for place in situation.entries()}
+    for bucket in sorted(buckets) + rng.choice([[], [], list(situation.ledger())]):
+        tear(rng, situation, bucket)
 
 
 def odd_blanks(rng, situation):
@@ -88,7 +122,7 @@ def next_epoch(rng, situation):
 def queue_up(rng, situation):
     """Puts each bucket into a queue that it fits, in any order."""
     z, queues = situation.sizes, {name: [] for name in QUEUES}
-    for bucket in rng.sample(range(z.C), z.C):
+    for bucket in rng.sample(range(queued(z)), queued(z)):
         queue, back_end = wanted_queue(situation, bucket)
         full = {"reads": z.R, "writes": z.W}.get(queue, z.C) == len(queues[queue])
         twice = any(entry.get("back_end", -1) == back_end for entry in queues[queue])

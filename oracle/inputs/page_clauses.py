@@ -5,9 +5,10 @@ Each takes the generator, the rich situation and the copy of it that is changed.
 
 from functools import partial
 
-from inputs.form import BLANK
-from inputs.images import DIRTY, EPOCH_END, LAST_EPOCH, READ, WRITE, any_log, log
-from inputs.state_clauses import need, unused_epoch
+from inputs.calls import queued
+from inputs.form import BLANK, spare_text
+from inputs.images import DIRTY, EPOCH_END, LAST_EPOCH, READ, WRITE, any_log, ledger_entry, log
+from inputs.state_clauses import need, next_place, unused_epoch
 
 WRITTEN = ["second copy", "second write", "third copy", "part of copy", "short logs", "long log"]
 
@@ -53,6 +54,12 @@ def copied(values, rng, rich, s):
     bucket = rich.buckets[rng.choice(["second copy", "third copy", "part of copy"])]
     for page in s.used(bucket):
         s.change(bucket, page, **values(s))
+
+
+def page_of_copy(values, rng, rich, s):
+    """In one page of a copy, not the first."""
+    need(s.sizes.P > 1)
+    s.change(rich.buckets["second copy"], rng.randrange(1, s.sizes.P), **values(s))
 
 
 # Blank pages
@@ -167,11 +174,64 @@ def last_epoch(rng, rich, s):
     s.state.values["epoch"] = EPOCH_END
 
 
+# The erase ledger
+
+def entry(values, rng, _, s):
+    """In an entry that is there, or in the next one."""
+    place = rng.choice(s.entries() + [next_place(s)])
+    s.put(*place, {**(s.spare(*place) or ledger_entry(rng.randrange(queued(s.sizes)), 0)), **values(s)})
+
+
+def entry_bit(place, rng, _, s):
+    at = next_place(s)
+    spare = bytearray.fromhex(spare_text(ledger_entry(rng.randrange(queued(s.sizes)), 0)))
+    spare[place] ^= 1 << rng.randrange(8)
+    s.put(*at, spare.hex().upper())
+
+
+def entry_elsewhere(rng, rich, s):
+    """State 4 outside the ledger."""
+    bucket = rng.choice([rich.buckets["blank"], rich.buckets["long log"], s.queue("free")[0]["bucket"]])
+    s.put(bucket, min(len(s.used(bucket)), s.sizes.P - 1), ledger_entry(rng.randrange(queued(s.sizes)), unused_epoch(s)))
+
+
+def log_in_ledger(rng, rich, s):
+    spare, = any_log(rng, s.sizes, unused_epoch(s), rich.back_ends[0], 1)
+    s.put(*next_place(s), spare)
+
+
+def hole_in_ledger(rng, _, s):
+    """Recovery takes it."""
+    need(s.sizes.P > 1)
+    bucket, page = rng.choice(s.ledger()), rng.randrange(1, s.sizes.P)
+    s.put(bucket, page - 1, None)
+    s.put(bucket, page, ledger_entry(rng.randrange(queued(s.sizes)), 0))
+
+
+def named(clause, rng, rich, s):
+    """The same in a bucket that an entry names: recovery takes holes and any ordinals, and nothing else."""
+    clause(rng, rich, s)
+    changed = {place[0] for place, page in s.pages.items() if page != rich.situation.pages[place]}
+    for bucket in sorted(changed):
+        programmed = s.used(bucket)
+        epoch = s.spare(bucket, rng.choice(programmed))["epoch"] if programmed else 0
+        s.put(*next_place(s), ledger_entry(bucket, epoch))
+
+
+def named_by_others(rng, rich, s):
+    """Entries for a bucket with a hole, of epochs that are not its own."""
+    need(s.sizes.P > 1)
+    bucket = rich.buckets["short logs"]
+    own = s.spare(bucket, 0)["epoch"]
+    s.put(bucket, 0, None)
+    s.put(*next_place(s), ledger_entry(bucket, rng.choice([0, own - 1, own ^ 256])))
+
+
 def whole(s):
     return s.sizes.P * s.sizes.S
 
 
-CLAUSES = [
+BY_BUCKET = [
     partial(blank_before, True), partial(blank_before, False), page_after_blank, data_of_blank,
     *(partial(odd_byte, place) for place in range(16)),
     *(partial(every_page, lambda s, kind=kind: {"kind": kind}) for kind in (0, 4, 255)),
@@ -204,6 +264,17 @@ CLAUSES = [
     # Copies
     partial(copied, lambda s: {"offset": 1, "length": whole(s) - 2}),
     partial(copied, lambda s: {"length": whole(s) - 2}),
+    partial(page_of_copy, lambda s: {"offset": 1, "length": whole(s) - 2}),
+    partial(page_of_copy, lambda s: {"length": whole(s) - 2}),
     begins_anew,
     shared_epoch, shared_epoch, last_epoch,
 ]
+LEDGER = [
+    *(partial(entry_bit, place) for place in range(16)),
+    *(partial(entry, lambda s, value=value: {"back_end": queued(s.sizes) + value}) for value in (-1, 0, 1, 2)),
+    partial(entry, lambda s: {"back_end": 65535}),
+    partial(entry, lambda s: {"epoch": LAST_EPOCH}),
+    *(partial(entry, lambda s, kind=kind: {"kind": kind}) for kind in (0, READ, WRITE, DIRTY, 5, 255)),
+    entry_elsewhere, log_in_ledger, hole_in_ledger, hole_in_ledger, named_by_others,
+]
+CLAUSES = BY_BUCKET + LEDGER + [partial(named, clause) for clause in BY_BUCKET]

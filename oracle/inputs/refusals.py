@@ -10,10 +10,10 @@ from inputs.situation import format_line
 ROOMY = Sizes(4, 1, 200, 1, 1, 1)
 # Sizes just within a limit and just beyond it; all else is within.
 EDGES = [ROOMY._replace(**edge) for edge in (
-    *({"S": s, "C": 3} for s in (0, 3, 4, 1024, 1025, 65535)), *({"P": p, "C": 3} for p in (0, 1, 64, 65, 255)),
-    *({"C": c} for c in (0, 2, 3, 256, 257, 65535)), *({"B": b} for b in (0, 1, 65535)),
+    *({"S": s, "C": 5} for s in (0, 3, 4, 1024, 1025, 65535)), *({"P": p, "C": 5} for p in (0, 1, 64, 65, 255)),
+    *({"C": c} for c in (0, 2, 3, 4, 5, 256, 257, 65535)), *({"B": b} for b in (0, 1, 65535)),
     *({"R": r} for r in (0, 1, 64, 65, 255)), *({"W": w} for w in (0, 1, 64, 65, 255)),
-    {"R": 50, "W": 49, "C": 100}, {"R": 50, "W": 50, "C": 100}, {"R": 1, "W": 1, "C": 3}, {"R": 2, "W": 1, "C": 3})]
+    {"R": 50, "W": 49, "C": 102}, {"R": 50, "W": 50, "C": 102}, {"R": 1, "W": 2, "C": 6}, {"R": 2, "W": 1, "C": 5})]
 
 
 def by_limit(z, rng, rich):

@@ -1,7 +1,7 @@
 """A made-up situation with something in every queue and every kind of bucket."""
 
-from inputs.calls import Sizes
-from inputs.images import (DIRTY, EPOCH_END, READ, WRITE, any_log, any_logs, copy_of, entry_for, fill, log,
+from inputs.calls import Sizes, queued
+from inputs.images import (DIRTY, EPOCH_END, READ, WRITE, any_ledger, any_log, any_logs, copy_of, entry_for, fill, log,
                            some_epochs)
 from inputs.situation import formatted
 
@@ -51,7 +51,7 @@ ROLES = {
 
 def rich_sizes(rng):
     return Sizes(rng.choice([4, 5, 8]), rng.choice([1, 2, 3, 3, 4, 4, 5, 6, 9, 10, 17]),
-                 len(ROLES) + rng.randint(2, 5), rng.randint(6, 9), rng.randint(2, 4), rng.randint(2, 4))
+                 len(ROLES) + 2 + rng.randint(2, 5), rng.randint(6, 9), rng.randint(2, 4), rng.randint(2, 4))
 
 
 class Rich:
@@ -59,11 +59,12 @@ class Rich:
 
     def __init__(self, rng, z):
         self.situation = formatted(z)
-        self.buckets = dict(zip(ROLES, rng.sample(range(z.C), z.C)))
+        self.buckets = dict(zip(ROLES, rng.sample(range(queued(z)), queued(z))))
         # Back-end bucket 0 stays out now and then: it is what a blank bucket may be taken for.
         self.back_ends = rng.sample(range(rng.choice([0, 1]), z.B), 4)
         for (role, (_, _, pages)), epoch in zip(ROLES.items(), some_epochs(rng, z.C)):
             fill(rng, self.situation, self.buckets[role], pages(rng, z, epoch, self.back_end(role)))
+        any_ledger(rng, self.situation, 0)
         self.queue_up(rng)
 
     def back_end(self, role):

@@ -1,6 +1,6 @@
 """What a state and a chip hold together, and the lines that put it there."""
 
-from inputs.calls import PLENTY
+from inputs.calls import PLENTY, queued
 from inputs.form import BLANK, SIZES, SPARE_DIGITS, State, fields, parse_spare, spare_text
 
 
@@ -51,9 +51,16 @@ class Situation:
                 entry["blank"] = self.sizes.P - len(self.used(entry["bucket"]))
 
     def epochs(self):
-        """The epochs on the chip."""
-        return [self.spare(bucket, 0)["epoch"] for bucket in range(self.sizes.C)
-                if self.pages[bucket, 0][0] != BLANK]
+        """The epochs on the chip, those of the ledger's entries too."""
+        firsts = [(bucket, 0) for bucket in range(queued(self.sizes)) if 0 in self.used(bucket)]
+        return [self.spare(*place)["epoch"] for place in firsts + self.entries()]
+
+    def entries(self):
+        """The pages of the erase ledger that are not blank."""
+        return [(bucket, page) for bucket in self.ledger() for page in self.used(bucket)]
+
+    def ledger(self):
+        return range(queued(self.sizes), self.sizes.C)
 
     def written(self):
         """The back-end buckets in the write queue that are there."""
@@ -74,7 +81,7 @@ def blank_pages(z):
 def formatted(z):
     """What a Done format leaves."""
     state = State({**z._asdict(), "running": 1, "count": 0, "epoch": 1},
-                  {"reads": [], "writes": [], "gc": [], "free": [{"bucket": c} for c in range(z.C)]})
+                  {"reads": [], "writes": [], "gc": [], "free": [{"bucket": c} for c in range(queued(z))]})
     return Situation(z, state, blank_pages(z))
 
 

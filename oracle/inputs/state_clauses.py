@@ -5,7 +5,8 @@ Each takes the generator, the rich situation and the copy of it that is changed.
 
 from functools import partial
 
-from inputs.images import EPOCH_END, any_log, entry_for, mark_some
+from inputs.calls import queued
+from inputs.images import EPOCH_END, any_log, entry_for, ledger_entry, mark_some
 from inputs.rich import ROLES
 
 
@@ -74,18 +75,23 @@ def one_too_many(queue, rng, rich, s):
     s.queue(queue).append({"bucket": bucket})
 
 
+def beyond(rng, s):
+    """A bucket of the ledger, or one that is not there: none that a queue may hold."""
+    return rng.choice([*s.ledger(), *s.ledger(), s.sizes.C, 255])
+
+
 def too_high(queue, rng, rich, s):
-    """A bucket that is not there, in place of one that is."""
+    """In place of one that must be there."""
     entry = rng.choice(s.queue("free")) if queue == "free" else entry_of(rich, s, "blank")
-    entry["bucket"] = rng.choice([s.sizes.C, 255])
+    entry["bucket"] = beyond(rng, s)
 
 
 def one_more_too_high(queue, rng, _, s):
-    s.queue(queue).append({"bucket": rng.choice([s.sizes.C, 255])})
+    s.queue(queue).append({"bucket": beyond(rng, s)})
 
 
 def queued_too_high(queue, rng, _, s):
-    rng.choice(s.queue(queue))["bucket"] = rng.choice([s.sizes.C, 255])
+    rng.choice(s.queue(queue))["bucket"] = beyond(rng, s)
 
 
 # A queue too long, a back-end bucket mapped twice
@@ -188,6 +194,34 @@ def next_epoch_present(rng, _, s):
         s.change(bucket, page, epoch=s.state.values["epoch"])
 
 
+# The erase ledger
+
+def next_place(s):
+    """The ledger bucket in use and its first blank page; if it is full, its last one."""
+    lower, upper = s.ledger()
+    in_use = upper if s.used(upper) else lower
+    return in_use, min(len(s.used(in_use)), s.sizes.P - 1)
+
+
+def entry_epoch(less, rng, _, s):
+    """An entry of an epoch that is the next one, or less."""
+    epoch = s.state.values["epoch"] - less
+    need(0 < epoch < EPOCH_END)
+    s.put(*next_place(s), ledger_entry(rng.randrange(queued(s.sizes)), epoch))
+
+
+def two_in_use(rng, _, s):
+    for bucket in s.ledger():
+        s.put(bucket, 0, ledger_entry(rng.randrange(queued(s.sizes)), 0))
+
+
+def other_in_use(_, __, s):
+    """The two have each other's pages."""
+    lower, upper = s.ledger()
+    for page in range(s.sizes.P):
+        s.pages[lower, page], s.pages[upper, page] = s.pages[upper, page], s.pages[lower, page]
+
+
 def unchanged(*_):
     pass
 
@@ -220,5 +254,5 @@ CLAUSES = [
     *(partial(count, value) for value in (15, 16, 255)),
     *(partial(epoch, value) for value in (0, EPOCH_END, EPOCH_END + 1, 2 ** 63, 2 ** 64 - 1)),
     *(partial(epoch_above_highest, more) for more in (0, 1, EPOCH_END + 1)),
-    next_epoch_present, unchanged,
+    next_epoch_present, *(partial(entry_epoch, less) for less in (0, 1)), two_in_use, other_in_use, unchanged,
 ]

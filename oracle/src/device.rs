@@ -3,7 +3,7 @@
 
 use crate::merge::Holding;
 use crate::sizes::Sizes;
-use crate::spare::{Kind, Log, Spare, SPARE_BYTES};
+use crate::spare::{areas, Kind, Log, Spare, SPARE_BYTES};
 
 const ERASED: u8 = 0xFF;
 
@@ -63,6 +63,28 @@ impl<'a> Device<'a> {
         let spare_bytes = self.sizes.bucket_pages * SPARE_BYTES;
         self.lent.data[self.sizes.start(bucket)..][..self.sizes.bucket_bytes()].fill(ERASED);
         self.lent.spare[usize::from(bucket) * spare_bytes..][..spare_bytes].fill(ERASED);
+        Ok(())
+    }
+
+    /// The epoch of a bucket as it is now; 0 if it is blank.
+    pub fn epoch_of(&self, bucket: u8) -> u32 {
+        let first_page = usize::from(bucket) * self.sizes.bucket_pages;
+        let spare = Spare::of(&areas(&self.lent.spare)[first_page]);
+        if spare.is_blank() {
+            0
+        } else {
+            spare.epoch()
+        }
+    }
+
+    /// Programs a ledger's page with an entry; its data is FF throughout.
+    pub fn program_entry(&mut self, bucket: u8, page: usize, entry: Spare) -> Result<(), Cut> {
+        let (_, outcome) = self.grant(1);
+        outcome?;
+        let page = usize::from(bucket) * self.sizes.bucket_pages + page;
+        let page_bytes = self.sizes.page_bytes;
+        self.lent.data[page * page_bytes..][..page_bytes].fill(ERASED);
+        self.lent.spare[page * SPARE_BYTES..][..SPARE_BYTES].copy_from_slice(&entry.area());
         Ok(())
     }
 

@@ -2,6 +2,7 @@
 //! hands the state back with an answer and the count of stores made.
 
 use crate::device::{Cut, Device, Lent};
+use crate::found::Found;
 use crate::recover;
 use crate::sizes::Sizes;
 use crate::state::State;
@@ -145,12 +146,12 @@ pub fn recover(state: State, sizes: Sizes, lent: Lent, allowance: u64) -> Outcom
     if let Err(refusal) = check_lent(&sizes, &lent) {
         return Outcome::refused(refusal, state);
     }
-    let mut survey = Survey::blank();
-    if !survey.look_over(&sizes, lent.spare) {
+    let mut found = Found::blank();
+    if !found.look_over(&sizes, lent.spare) {
         return Outcome::refused(Refusal::Image, state);
     }
     let mut device = Device::new(sizes, lent, allowance);
-    match recover::recover(sizes, &survey, &mut device) {
+    match recover::recover(sizes, found, &mut device) {
         Ok(state) => Outcome {
             answer: Answer::Done,
             stores: device.stores_made(),
@@ -241,6 +242,7 @@ fn run(
         state: state.clone(),
         device: Device::new(state.sizes, lent, allowance),
         survey: &survey,
+        ledger: survey.ledger,
     };
     match operation(&mut call) {
         Ok(answer) => Outcome {

@@ -16,13 +16,14 @@ impl State {
             && self.reads.iter().all(|e| self.read_entry_fits(e, survey))
             && self.writes.iter().all(|e| self.write_entry_fits(e, survey))
             && self.free.iter().all(|&bucket| survey[bucket].is_blank())
+            && survey.ledger.one_in_use()
             && self.write_count < HALVING_PERIOD
             && (survey.next_epoch..=EPOCH_END).contains(&self.next_epoch)
     }
 
-    /// Whether the four queues hold each cache bucket once.
+    /// Whether the four queues hold each bucket outside the ledger once, and no other.
     fn holds_each_once(&self) -> bool {
-        let buckets = self.sizes.cache_buckets;
+        let buckets = self.sizes.queued_buckets();
         let mut held = [false; MOST_BUCKETS];
         let mut hold = |bucket: u8| held[usize::from(bucket)] = true;
         self.reads.iter().for_each(|e| hold(e.bucket));

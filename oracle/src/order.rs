@@ -17,7 +17,8 @@ pub struct Orders {
 impl Orders {
     /// Each order is sorted as numbers, with the bucket in the low byte.
     pub fn new(sizes: &Sizes, survey: &Survey) -> Orders {
-        let occupied = sizes.buckets().filter(|&bucket| !survey[bucket].is_blank());
+        let buckets = sizes.outside_ledger();
+        let occupied = buckets.filter(|&bucket| !survey[bucket].is_blank());
         let mut keys: List<u64, MOST_BUCKETS> = occupied
             .map(|bucket| u64::from(survey[bucket].epoch) << 8 | u64::from(bucket))
             .collect();

@@ -1,6 +1,7 @@
 //! Recovery: what the chip alone says of the queues.
 
 use crate::device::{Cut, Device};
+use crate::found::Found;
 use crate::merge::Holding;
 use crate::order::{lowest_of_newest, Orders};
 use crate::sizes::{Sizes, MOST_BUCKETS};
@@ -8,10 +9,11 @@ use crate::spare::Kind;
 use crate::state::{ReadEntry, State, WriteEntry};
 use crate::survey::Survey;
 
-/// Rebuilds the state from a well-formed image, settling on the disk what the
-/// queues have no room for.
-pub fn recover(sizes: Sizes, survey: &Survey, device: &mut Device) -> Result<State, Cut> {
-    let plan = Plan::new(sizes, survey);
+/// Finishes the erases that the ledger names, then rebuilds the state from the chip as
+/// it is then, settling on the disk what the queues have no room for.
+pub fn recover(sizes: Sizes, mut found: Found, device: &mut Device) -> Result<State, Cut> {
+    found.sweep(&sizes, device)?;
+    let plan = Plan::new(sizes, &found.survey);
     plan.settle(device)?;
     Ok(plan.state())
 }
@@ -139,7 +141,7 @@ impl<'s> Plan<'s> {
             reads: with(Fate::KeptCopy).map(|b| self.read_entry(b)).collect(),
             writes: with(Fate::KeptWrite).map(|b| self.write_entry(b)).collect(),
             gc: gc.into_iter().flat_map(with).collect(),
-            free: self.sizes.buckets().filter(is_blank).collect(),
+            free: self.sizes.outside_ledger().filter(is_blank).collect(),
             write_count: 0,
             next_epoch: self.survey.next_epoch,
         }

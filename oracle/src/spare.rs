@@ -60,6 +60,11 @@ impl Spare {
         u128::from_le_bytes(*b"\xFF\0\0\xFF\xFF\xFF\xFF\xFF\xFF\xFF\xFF\xFF\0\0\0\0");
     const ZERO_BYTES: u128 = u128::from_le_bytes(*b"\0\0\0\xFF\0\0\0\0\0\0\xFF\xFF\0\0\0\0");
 
+    /// State 4, ordinal 0, count 1 and zeros: an entry but for its epoch and its bucket.
+    const ENTRY: u128 = u128::from_le_bytes(*b"\x04\0\x01\0\0\0\0\0\0\0\0\0\0\0\0\0");
+    const ENTRY_FIELDS: u128 =
+        u128::from_le_bytes(*b"\0\0\0\0\xFF\xFF\xFF\xFF\xFF\xFF\0\0\0\0\0\0");
+
     pub fn of(area: &Area) -> Spare {
         Spare(u128::from_le_bytes(*area))
     }
@@ -73,6 +78,14 @@ impl Spare {
         area[8..10].copy_from_slice(&log.back_end.to_be_bytes());
         area[12..14].copy_from_slice(&(log.offset as u16).to_be_bytes());
         area[14..].copy_from_slice(&((log.length - 1) as u16).to_be_bytes());
+        Spare::of(&area)
+    }
+
+    /// A ledger's entry for a bucket that is about to be erased; epoch 0 says it has none.
+    pub fn entry(bucket: u8, epoch: u32) -> Spare {
+        let mut area = Spare::ENTRY.to_le_bytes();
+        area[4..8].copy_from_slice(&epoch.to_be_bytes());
+        area[9] = bucket;
         Spare::of(&area)
     }
 
@@ -97,7 +110,7 @@ impl Spare {
         ((self.0 >> (8 * place)) as u16).swap_bytes()
     }
 
-    pub fn kind(self) -> Option<Kind> {
+    fn kind(self) -> Option<Kind> {
         Kind::from_byte(self.byte(0))
     }
 
@@ -125,18 +138,47 @@ impl Spare {
         usize::from(self.pair(14)) + 1
     }
 
+    /// The bucket and the epoch of a ledger's entry, if this is one.
+    pub fn as_entry(self, sizes: &Sizes) -> Option<(u8, u32)> {
+        let bucket = usize::from(self.back_end());
+        let is_entry =
+            self.0 & !Spare::ENTRY_FIELDS == Spare::ENTRY && bucket < sizes.queued_buckets();
+        is_entry.then(|| (bucket as u8, self.epoch()))
+    }
+
     /// If this page completes its log, how many pages before it the log began.
     pub fn completes(self) -> Option<usize> {
         (self.ordinal() + 1 == self.count()).then(|| self.ordinal())
     }
 
     pub fn starts_log(self, sizes: &Sizes) -> bool {
+        self.is_first() && self.log_fits(sizes)
+    }
+
+    /// Whether this is the first page of its log.
+    pub fn is_first(self) -> bool {
         self.ordinal() == 0
-            && sizes.fills_pages(self.length(), self.count())
+    }
+
+    /// Whether the page count fits the length, and the log its bucket.
+    fn log_fits(self, sizes: &Sizes) -> bool {
+        sizes.fills_pages(self.length(), self.count())
             && sizes.part_fits(self.offset(), self.length())
     }
 
-    pub fn zeros_are_zero(self) -> bool {
+    /// The kind of a programmed page whose fields keep the rules, whatever its ordinal.
+    pub fn kind_if_good(self, sizes: &Sizes) -> Option<Kind> {
+        let kind = self.kind()?;
+        let whole = self.offset() == 0 && self.length() == sizes.bucket_bytes();
+        let good = self.zeros_are_zero()
+            && self.epoch() >= 1
+            && usize::from(self.back_end()) < sizes.back_end_buckets
+            && self.log_fits(sizes)
+            && (kind == Kind::Write || whole);
+        good.then_some(kind)
+    }
+
+    fn zeros_are_zero(self) -> bool {
         self.0 & Spare::ZERO_BYTES == 0
     }
 

@@ -50,7 +50,7 @@ impl State {
         State {
             sizes,
             running: true,
-            free: sizes.buckets().collect(),
+            free: sizes.outside_ledger().collect(),
             next_epoch: 1,
             ..State::default()
         }

@@ -1,6 +1,7 @@
 //! The steps that the operations share.
 
 use crate::device::{Cut, Device};
+use crate::ledger::Ledger;
 use crate::merge::Holding;
 use crate::spare::Kind;
 use crate::state::{State, WriteEntry};
@@ -13,6 +14,8 @@ pub struct Call<'a> {
     pub device: Device<'a>,
     /// The buckets as they were when the call began.
     pub survey: &'a Survey,
+    /// The erase ledger as it is now.
+    pub ledger: Ledger,
 }
 
 /// A place for a log: the bucket, its epoch and its blank pages.
@@ -23,11 +26,13 @@ pub struct Room {
 }
 
 impl Call<'_> {
-    /// Erases the GC head; false when there is none.
+    /// Erases the GC head, once the ledger has an entry for it; false when there is none.
     pub fn erase_gc_head(&mut self) -> Result<bool, Cut> {
         let Some(bucket) = self.state.gc.pop_first() else {
             return Ok(false);
         };
+        self.ledger
+            .note(&mut self.device, &self.state.sizes, bucket)?;
         self.device.erase(bucket)?;
         self.state.free.push(bucket);
         Ok(true)

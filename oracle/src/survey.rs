@@ -4,6 +4,7 @@
 use std::ops::Index;
 
 use crate::distinct::Distinct;
+use crate::ledger::{ledger_areas, Ledger};
 use crate::sizes::{Sizes, MOST_BUCKETS};
 use crate::spare::{areas, Area, Kind, Spare};
 
@@ -19,7 +20,7 @@ pub struct Look {
 }
 
 impl Look {
-    const BLANK: Look = Look {
+    pub const BLANK: Look = Look {
         kind: Kind::Blank,
         used: 0,
         back_end: 0,
@@ -40,12 +41,14 @@ impl Look {
     }
 }
 
-/// What the whole chip holds. It is filled where it stands, as it is too large to be
+/// What the whole chip holds: its buckets outside the ledger, and the ledger. It is filled where it stands, as it is too large to be
 /// handed on by value for nothing.
 pub struct Survey {
-    /// Blank from the number of cache buckets on.
+    /// Blank from the ledger on.
     looks: [Look; MOST_BUCKETS],
-    /// The lowest next epoch that is above all present: the highest plus 1, or 1.
+    pub ledger: Ledger,
+    /// The lowest next epoch that is above all present, those of entries too: the
+    /// highest plus 1, or 1.
     pub next_epoch: u64,
 }
 
@@ -54,22 +57,61 @@ impl Survey {
     pub fn blank() -> Survey {
         Survey {
             looks: [Look::BLANK; MOST_BUCKETS],
+            ledger: Ledger::default(),
             next_epoch: 1,
         }
     }
 
     /// Looks at every bucket of the chip; false when the image is not well formed.
     pub fn look_over(&mut self, sizes: &Sizes, spare: &[u8]) -> bool {
+        self.look_over_buckets(sizes, spare, |_, pages| look_at(sizes, pages))
+            && self.look_over_ledger(sizes, spare)
+    }
+
+    /// Looks at every bucket outside the ledger by a rule for its pages; no two may
+    /// share an epoch.
+    pub fn look_over_buckets(
+        &mut self,
+        sizes: &Sizes,
+        spare: &[u8],
+        look_at: impl Fn(usize, &[Area]) -> Option<Look>,
+    ) -> bool {
         let mut epochs = Distinct::<{ 2 * MOST_BUCKETS }>::new();
+        let looks = self.looks[..sizes.queued_buckets()].iter_mut();
         let buckets = areas(spare).chunks_exact(sizes.bucket_pages);
-        self.looks.iter_mut().zip(buckets).all(|(look, pages)| {
-            let Some(seen) = look_at(sizes, pages) else {
+        looks.zip(buckets).enumerate().all(|(i, (look, pages))| {
+            let Some(seen) = look_at(i, pages) else {
                 return false;
             };
             *look = seen;
             self.next_epoch = self.next_epoch.max(u64::from(seen.epoch) + 1);
             seen.is_blank() || epochs.insert(seen.epoch)
         })
+    }
+
+    /// Looks at both ledger buckets: entries, and blank pages only behind them.
+    fn look_over_ledger(&mut self, sizes: &Sizes, spare: &[u8]) -> bool {
+        let buckets = ledger_areas(sizes, spare).chunks_exact(sizes.bucket_pages);
+        buckets.enumerate().all(|(i, pages)| {
+            let entries = pages.iter().map_while(|p| Spare::of(p).as_entry(sizes));
+            let mut used = 0;
+            for (_, epoch) in entries {
+                self.take_epoch(epoch);
+                used += 1;
+            }
+            self.ledger.used[i] = used;
+            all_blank(&pages[used..])
+        })
+    }
+
+    /// An epoch that is present: the next one is above it.
+    pub fn take_epoch(&mut self, epoch: u32) {
+        self.next_epoch = self.next_epoch.max(u64::from(epoch) + 1);
+    }
+
+    /// Takes a bucket as erased since.
+    pub fn erased(&mut self, bucket: u8) {
+        self.looks[usize::from(bucket)] = Look::BLANK;
     }
 }
 
@@ -82,12 +124,12 @@ impl Index<u8> for Survey {
 }
 
 /// Looks at one bucket; `None` when its pages break the rules.
-fn look_at(sizes: &Sizes, pages: &[Area]) -> Option<Look> {
+pub fn look_at(sizes: &Sizes, pages: &[Area]) -> Option<Look> {
     let first = Spare::of(&pages[0]);
     if first.is_blank() {
         return all_blank(pages).then_some(Look::BLANK);
     }
-    let kind = kind_of_first(sizes, first)?;
+    let kind = first.kind_if_good(sizes).filter(|_| first.is_first())?;
     let mut used = pages_of_log(first, pages);
     while used < pages.len() {
         let spare = Spare::of(&pages[used]);
@@ -105,18 +147,6 @@ fn look_at(sizes: &Sizes, pages: &[Area]) -> Option<Look> {
         back_end: first.back_end(),
         epoch: first.epoch(),
     })
-}
-
-/// The kind of a bucket by its first page, if that keeps the rules.
-fn kind_of_first(sizes: &Sizes, first: Spare) -> Option<Kind> {
-    let kind = first.kind()?;
-    let whole = first.offset() == 0 && first.length() == sizes.bucket_bytes();
-    let good = first.zeros_are_zero()
-        && first.epoch() >= 1
-        && usize::from(first.back_end()) < sizes.back_end_buckets
-        && first.starts_log(sizes)
-        && (kind == Kind::Write || whole);
-    good.then_some(kind)
 }
 
 /// How many pages of a log there are from its first one on: a page that goes on

@@ -44,7 +44,7 @@ appended-by z b off bytes s r count w left e pages is-bucket is-left is-epoch is
     rw (is-pages, is-epoch ∙ same-epoch z (r .device) w, is-left ∙ sym count ∙ same-blanks z (r .device) (cacheOf b (s .writes)), is-bucket)
 
 pub started-by : (z : Sizes) (s : State) (r : Run) → Ready s → (b off : ℕ) (bytes : List ℕ) (pages : ℕ) {run : Run} {t : State}
-    → run ≡ runAll z (freshStores z (roomOf s) writeKind b off bytes) r → t ≡ makeRoom z s (r .device) .state → pages ≡ pagesFor z (length bytes)
+    → run ≡ runAll z (freshStores z (r .device) (roomOf s) writeKind b off bytes) r → t ≡ makeRoom z s (r .device) .state → pages ≡ pagesFor z (length bytes)
     → record { run = run; state = accept b (z .p - pages) (takeWrite b t) } ≡ after z (makeRoom z then startLog z b off bytes) s r
 unfolding startLog
 started-by z s r ready b off bytes pages e h is-pages =

@@ -7,7 +7,8 @@ use lib.Dec.{leb}
 use borrow.Author.Tests.{leb-true}
 use Rattle.model.specs.declared.Sizes.{Sizes}
 use Rattle.model.specs.Sizes.{Device, limits}
-use Rattle.model.specs.Image.{wellFormed}
+use Rattle.model.specs.Image.{bodyFits}
+use Rattle.model.specs.Ledger.{wellFormed, recoverable}
 use Rattle.model.specs.State.{State, stateFits}
 use Rattle.model.specs.Operations.{lastEpoch}
 use Rattle.model.specs.Tests.{Test, firstFailed}
@@ -18,7 +19,8 @@ use Rattle.geometry.specs.Geometry.{Lent}
 use Rattle.model.proofs.Limits.{limits-of}
 use Rattle.geometry.proofs.Passed.{lengths-hold, lent-passed}
 use Rattle.image.specs.Chip.{Chip, spareOnly}
-use Rattle.rules.proofs.SameSpare.{same-well-formed}
+use Rattle.ledger.proofs.Pages.{formed-body}
+use Rattle.rules.proofs.SameSpare.{same-body-fits}
 use Rattle.state.proofs.Queued.{Queued, queues-hold, bounded}
 use Rattle.state.proofs.Below.{queues-below}
 use Rattle.steps.specs.Ready.{Orderly}
@@ -29,13 +31,13 @@ use Rattle.checks.proofs.Rest.{running-numbered}
 pub chip-opens : (z : Sizes) (d : Device) → firstFailed (lentTests z d) ≡ 0 → Chip z (d .spare)
 chip-opens z d h = let p = lent-passed z d h in record { limits = p .0; spare-length = p .1 .spare-length }
 
--- numbers 1, 2 and 4 are passed
+-- numbers 1 and 2 are passed, and the buckets outside the ledger are made by the page rules
 pub record Image (z : Sizes) (d : Device) : Type 0 where
   pub limits : Limits z
   pub lent : Lent z (d .flash) (d .spare) (d .disk)
-  pub formed : wellFormed z d ≡ true
+  pub formed : bodyFits z d ≡ true
 
-pub image-opens : (z : Sizes) (d : Device) → firstFailed (lentTests z d ++ ((4, wellFormed z d) ∷ [])) ≡ 0 → Image z d
+pub image-opens : (z : Sizes) (d : Device) → firstFailed (lentTests z d ++ ((4, bodyFits z d) ∷ [])) ≡ 0 → Image z d
 unfolding lentTests
 image-opens z d h =
     let one = first-passed 0 _ _ h in
@@ -43,9 +45,24 @@ image-opens z d h =
     let four = first-passed 3 _ _ (two .1) in
     record { limits = limits-of z (one .0); lent = lengths-hold z d (two .0); formed = four .0 }
 
+-- numbers 1, 2 and 4 of recover are passed
+pub record Found (z : Sizes) (d : Device) : Type 0 where
+  pub limits : Limits z
+  pub lent : Lent z (d .flash) (d .spare) (d .disk)
+  pub found : recoverable z d ≡ true
+
+pub found-opens : (z : Sizes) (d : Device) → firstFailed (lentTests z d ++ ((4, recoverable z d) ∷ [])) ≡ 0 → Found z d
+unfolding lentTests
+found-opens z d h =
+    let one = first-passed 0 _ _ h in
+    let two = first-passed 1 _ _ (one .1) in
+    let four = first-passed 3 _ _ (two .1) in
+    record { limits = limits-of z (one .0); lent = lengths-hold z d (two .0); found = four .0 }
+
 -- numbers 1 to 5 are passed
 pub record Open (s : State) (d : Device) : Type 0 where
   pub image : Image (s .sizes) d
+  pub formed : wellFormed (s .sizes) d ≡ true
   pub running : s .running ≡ true
   pub limited : limits (s .sizes) ≡ true
   pub fits : stateFits s d ≡ true
@@ -60,7 +77,8 @@ module _ (s : State) (d : Device) where
       let four = first-passed 3 _ _ (three .1) in
       let five = first-passed 4 _ _ (four .1) in
       record {
-        image = record { limits = limits-of (s .sizes) (one .0); lent = lengths-hold (s .sizes) d (two .0); formed = four .0 };
+        image = record { limits = limits-of (s .sizes) (one .0); lent = lengths-hold (s .sizes) d (two .0); formed = formed-body (s .sizes) d (four .0) };
+        formed = four .0;
         running = three .0;
         limited = one .0;
         fits = five .0;
@@ -105,5 +123,5 @@ module _ {s : State} {d : Device} (o : Open s d) where
         free = below .free;
       }
 
-  pub open-formed : wellFormed (s .sizes) (spareOnly (d .spare)) ≡ true
-  open-formed = same-well-formed (s .sizes) d ∙ o .image .formed
+  pub open-formed : bodyFits (s .sizes) (spareOnly (d .spare)) ≡ true
+  open-formed = same-body-fits (s .sizes) d ∙ o .image .formed

@@ -7,7 +7,8 @@ use lib.Dec.{leb, ltb}
 use Rattle.lists.specs.Lists.{if_then_else_, all}
 use Rattle.model.specs.declared.Sizes.{Sizes}
 use Rattle.model.specs.Sizes.{Device}
-use Rattle.model.specs.Image.{wellFormed}
+use Rattle.model.specs.Image.{bodyFits}
+use Rattle.model.specs.Ledger.{wellFormed, recoverable}
 use Rattle.model.specs.State.{State, stateFits}
 use Rattle.model.specs.Operations.{lastEpoch}
 use Rattle.model.specs.Tests.{Test, firstFailed}
@@ -23,9 +24,14 @@ unfolding runningTests lentTests all numbered
 running-numbered s d = refl
 
 pub image-rest : (z : Sizes) (d : Device) → firstFailed (lentTests z d) ≡ 0
-    → firstFailed (lentTests z d ++ ((4, wellFormed z d) ∷ [])) ≡ (if wellFormed z d then 0 else 4)
+    → firstFailed (lentTests z d ++ ((4, bodyFits z d) ∷ [])) ≡ (if bodyFits z d then 0 else 4)
 unfolding firstFailed
-image-rest z d h = goes-on (lentTests z d) ((4, wellFormed z d) ∷ []) (lent-numbered z d) h
+image-rest z d h = goes-on (lentTests z d) ((4, bodyFits z d) ∷ []) (lent-numbered z d) h
+
+pub recover-rest : (z : Sizes) (d : Device) → firstFailed (lentTests z d) ≡ 0
+    → firstFailed (lentTests z d ++ ((4, recoverable z d) ∷ [])) ≡ (if recoverable z d then 0 else 4)
+unfolding firstFailed
+recover-rest z d h = goes-on (lentTests z d) ((4, recoverable z d) ∷ []) (lent-numbered z d) h
 
 module _ (s : State) (d : Device) where
   pub running-rest : firstFailed (lentTests (s .sizes) d) ≡ 0

@@ -4,7 +4,8 @@ use state::State;
 ghost use mathlib.Core.Path.{_≡_};
 ghost use mathlib.Core.List.{[], _∷_, _++_};
 ghost use lib.Dec.{leb};
-ghost use Rattle.model.specs.Image.{wellFormed};
+ghost use Rattle.model.specs.Image.{bodyFits};
+ghost use Rattle.model.specs.Ledger.{recoverable};
 ghost use Rattle.model.specs.Operations.{lastEpoch};
 ghost use Rattle.model.specs.Tests.{firstFailed};
 ghost use Rattle.model.specs.Calls.{lentTests, runningTests, rangeFits, placeTests};
@@ -12,15 +13,26 @@ ghost use Rattle.model.proofs.Limits.{Limits};
 ghost use Rattle.geometry.specs.Geometry.{device};
 ghost use Rattle.state.specs.View.{placesOf, viewOf};
 
-// Numbers 1, 2 and 4, of recover.
+// Numbers 1 and 2, and of number 4 what it asks of the buckets outside the ledger: all that a merge relies on.
 pub fn image_refusal(z: Sizes, flash: &[u8], spare: &[u8], disk: &[u8]) -> u8
-    ensures { λ r. ⌜ r ≡ firstFailed (lentTests z (device (now (flash .entry)) (now (spare .entry)) (now (disk .entry))) ++ ((4, wellFormed z (device (now (flash .entry)) (now (spare .entry)) (now (disk .entry)))) ∷ [])) ⌝ }
+    ensures { λ r. ⌜ r ≡ firstFailed (lentTests z (device (now (flash .entry)) (now (spare .entry)) (now (disk .entry))) ++ ((4, bodyFits z (device (now (flash .entry)) (now (spare .entry)) (now (disk .entry)))) ∷ [])) ⌝ }
 {
     let number = geometry::lent_refusal(z, flash, spare, disk);
     if number != 0 {
         return number;
     }
-    if rules::well_formed(z, spare) { 0 } else { 4 }
+    if rules::body_fits(z, spare) { 0 } else { 4 }
+}
+
+// Numbers 1, 2 and 4, of recover.
+pub fn recover_refusal(z: Sizes, flash: &[u8], spare: &[u8], disk: &[u8]) -> u8
+    ensures { λ r. ⌜ r ≡ firstFailed (lentTests z (device (now (flash .entry)) (now (spare .entry)) (now (disk .entry))) ++ ((4, recoverable z (device (now (flash .entry)) (now (spare .entry)) (now (disk .entry)))) ∷ [])) ⌝ }
+{
+    let number = geometry::lent_refusal(z, flash, spare, disk);
+    if number != 0 {
+        return number;
+    }
+    if holes::recoverable(z, spare) { 0 } else { 4 }
 }
 
 // Numbers 1 to 5, of erase step and drain.

@@ -10,7 +10,7 @@ ghost use Prim.Native.Nat.{_≤_, _<_};
 ghost use lib.ListN.{length};
 ghost use Rattle.lists.specs.Lists.{if_then_else_, times};
 ghost use Rattle.model.specs.Sizes.{body};
-ghost use Rattle.model.specs.Image.{isWrite, isCopy, wellFormed};
+ghost use Rattle.model.specs.Image.{isWrite, isCopy, bodyFits};
 ghost use Rattle.model.specs.Recover.{buckets, isChosen, isDroppedWrite, isDroppedCopy, isOldCopy};
 ghost use Rattle.fifo.specs.View.{listOf};
 ghost use Rattle.image.specs.Chip.{Chip, spareOnly};
@@ -30,7 +30,7 @@ pub enum Kind {
 
 fn is_used(z: Sizes, occupied: bool, c: usize, spare: &[u8]) -> bool
     requires { ⌜ Chip z (now spare) ⌝ }
-    requires { ⌜ wellFormed z (spareOnly (now spare)) ≡ true ⌝ }
+    requires { ⌜ bodyFits z (spareOnly (now spare)) ≡ true ⌝ }
     requires { ⌜ c < body z ⌝ }
     ensures { λ r. ⌜ r ≡ isUsed z (spareOnly (now (spare .entry))) occupied c ⌝ }
 {
@@ -41,7 +41,7 @@ fn is_used(z: Sizes, occupied: bool, c: usize, spare: &[u8]) -> bool
 // The used buckets, or the blank ones, rising.
 pub fn buckets(z: Sizes, occupied: bool, spare: &[u8]) -> Fifo
     requires { ⌜ Chip z (now spare) ⌝ }
-    requires { ⌜ wellFormed z (spareOnly (now spare)) ≡ true ⌝ }
+    requires { ⌜ bodyFits z (spareOnly (now spare)) ≡ true ⌝ }
     ensures { λ r. ⌜ listOf r ≡ buckets z (spareOnly (now (spare .entry))) (isUsed z (spareOnly (now (spare .entry))) occupied) ⌝ }
 {
     let end = geometry::body(z);
@@ -61,7 +61,7 @@ pub fn buckets(z: Sizes, occupied: bool, spare: &[u8]) -> Fifo
 // The used buckets by epoch.
 pub fn in_order(z: Sizes, spare: &[u8]) -> Fifo
     requires { ⌜ Chip z (now spare) ⌝ }
-    requires { ⌜ wellFormed z (spareOnly (now spare)) ≡ true ⌝ }
+    requires { ⌜ bodyFits z (spareOnly (now spare)) ≡ true ⌝ }
     ensures { λ r. ⌜ listOf r ≡ inOrder z (spareOnly (now (spare .entry))) ⌝ }
 {
     let used = buckets(z, true, spare);
@@ -70,7 +70,7 @@ pub fn in_order(z: Sizes, spare: &[u8]) -> Fifo
 
 fn is_a(z: Sizes, kind: Kind, c: usize, spare: &[u8]) -> bool
     requires { ⌜ Chip z (now spare) ⌝ }
-    requires { ⌜ wellFormed z (spareOnly (now spare)) ≡ true ⌝ }
+    requires { ⌜ bodyFits z (spareOnly (now spare)) ≡ true ⌝ }
     requires { ⌜ c < body z ⌝ }
     ensures { λ r. ⌜ r ≡ isKind z (spareOnly (now (spare .entry))) kind c ⌝ }
 {
@@ -83,7 +83,7 @@ fn is_a(z: Sizes, kind: Kind, c: usize, spare: &[u8]) -> bool
 
 fn named(z: Sizes, kind: Kind, c: usize, spare: &[u8]) -> u16
     requires { ⌜ Chip z (now spare) ⌝ }
-    requires { ⌜ wellFormed z (spareOnly (now spare)) ≡ true ⌝ }
+    requires { ⌜ bodyFits z (spareOnly (now spare)) ≡ true ⌝ }
     requires { ⌜ c < body z ⌝ }
     ensures { λ r. ⌜ r ≡ named z (spareOnly (now (spare .entry))) (isKind z (spareOnly (now (spare .entry))) kind) c ⌝ }
 {
@@ -97,7 +97,7 @@ fn named(z: Sizes, kind: Kind, c: usize, spare: &[u8]) -> u16
 // The column of a kind.
 fn fill(z: Sizes, kind: Kind, order: &[u8], spare: &[u8], out: &mut [u16])
     requires { ⌜ Chip z (now spare) ⌝ }
-    requires { ⌜ wellFormed z (spareOnly (now spare)) ≡ true ⌝ }
+    requires { ⌜ bodyFits z (spareOnly (now spare)) ≡ true ⌝ }
     requires { ⌜ now order ≡ inOrder z (spareOnly (now spare)) ⌝ }
     requires { ⌜ length (now out) ≡ length (now order) ⌝ }
     ensures { λ _. ⌜ now (out .exit) ≡ column z (spareOnly (now (spare .entry))) (isKind z (spareOnly (now (spare .entry))) kind) ⌝ }
@@ -199,7 +199,7 @@ fn all_but(n: usize, column: &[u16], candidates: &mut [u16])
 // All Write buckets, and those of which the units are written: all but the newest that are alone in their back-end bucket.
 pub fn write_columns(z: Sizes, order: &[u8], spare: &[u8], writes: &mut [u16], dropped: &mut [u16])
     requires { ⌜ Chip z (now spare) ⌝ }
-    requires { ⌜ wellFormed z (spareOnly (now spare)) ≡ true ⌝ }
+    requires { ⌜ bodyFits z (spareOnly (now spare)) ≡ true ⌝ }
     requires { ⌜ now order ≡ inOrder z (spareOnly (now spare)) ⌝ }
     requires { ⌜ (length (now writes) ≡ length (now order)) × (length (now dropped) ≡ length (now order)) ⌝ }
     ensures { λ _. ⌜ now (writes .exit) ≡ column z (spareOnly (now (spare .entry))) (isWrite z (spareOnly (now (spare .entry)))) ⌝ }
@@ -220,7 +220,7 @@ pub fn copy_columns(
     dropped: &mut [u16],
 )
     requires { ⌜ Chip z (now spare) ⌝ }
-    requires { ⌜ wellFormed z (spareOnly (now spare)) ≡ true ⌝ }
+    requires { ⌜ bodyFits z (spareOnly (now spare)) ≡ true ⌝ }
     requires { ⌜ now order ≡ inOrder z (spareOnly (now spare)) ⌝ }
     requires { ⌜ now writes ≡ column z (spareOnly (now spare)) (isDroppedWrite z (spareOnly (now spare))) ⌝ }
     requires { ⌜ (length (now copies) ≡ length (now order)) × (length (now dropped) ≡ length (now order)) ⌝ }
@@ -236,7 +236,7 @@ pub fn copy_columns(
 // The back-end bucket of a copy that is not the one of its back-end bucket.
 fn old_back(z: Sizes, c: usize, copy: u16, spare: &[u8]) -> u16
     requires { ⌜ Chip z (now spare) ⌝ }
-    requires { ⌜ wellFormed z (spareOnly (now spare)) ≡ true ⌝ }
+    requires { ⌜ bodyFits z (spareOnly (now spare)) ≡ true ⌝ }
     requires { ⌜ c < body z ⌝ }
     ensures { λ r. ⌜ r ≡ (if isNamed copy then nowhere else named z (spareOnly (now (spare .entry))) (isCopy z (spareOnly (now (spare .entry)))) c) ⌝ }
 {
@@ -249,7 +249,7 @@ fn old_back(z: Sizes, c: usize, copy: u16, spare: &[u8]) -> u16
 // Superseded and incomplete copies.
 pub fn old_column(z: Sizes, order: &[u8], copies: &[u16], spare: &[u8], out: &mut [u16])
     requires { ⌜ Chip z (now spare) ⌝ }
-    requires { ⌜ wellFormed z (spareOnly (now spare)) ≡ true ⌝ }
+    requires { ⌜ bodyFits z (spareOnly (now spare)) ≡ true ⌝ }
     requires { ⌜ now order ≡ inOrder z (spareOnly (now spare)) ⌝ }
     requires { ⌜ now copies ≡ column z (spareOnly (now spare)) (isChosen z (spareOnly (now spare))) ⌝ }
     requires { ⌜ length (now out) ≡ length (now order) ⌝ }

@@ -9,10 +9,9 @@ use lib.ListN.{length}
 use Rattle.lists.specs.Lists.{empty, head}
 use Rattle.lists.proofs.Tests.{true-or-false}
 use Rattle.model.specs.declared.Sizes.{Sizes}
-use Rattle.model.specs.Sizes.{Device}
+use Rattle.model.specs.Sizes.{Device, body}
 use Rattle.model.specs.State.{State, moved, entry, cacheOf, without}
 use Rattle.model.specs.Steps.{_then_, nothing, freed, eraseStep, makeRoom, taken, takeCopy, logStores, fillCopy, copy}
-use Rattle.model.proofs.Limits.{on-chip}
 use Rattle.model.proofs.Queues.{absent-without}
 use Rattle.model.proofs.QueuesGrown.{maps-newest}
 use Rattle.meter.specs.Run.{Run, runAll}
@@ -29,11 +28,11 @@ no-entry (x ∷ l) h = absurd (true≢false (sym h))
 
 module _ (z : Sizes) (s : State) (d : Device) where
   -- the room is the one that makeRoom plans
-  room-erases : makeRoom z s d .stores ≡ erases (roomOf s)
+  room-erases : makeRoom z s d .stores ≡ erases z d (roomOf s)
   unfolding makeRoom eraseStep nothing erases roomOf
   room-erases = go (true-or-false (empty (s .free))) (true-or-false (empty (s .gc)))
     where
-      go : (empty (s .free) ≡ true) ⊎ (empty (s .free) ≡ false) → (empty (s .gc) ≡ true) ⊎ (empty (s .gc) ≡ false) → makeRoom z s d .stores ≡ erases (roomOf s)
+      go : (empty (s .free) ≡ true) ⊎ (empty (s .free) ≡ false) → (empty (s .gc) ≡ true) ⊎ (empty (s .gc) ≡ false) → makeRoom z s d .stores ≡ erases z d (roomOf s)
       go (inr e) g = rw e
       go (inl e) (inl g) = rw (e, g)
       go (inl e) (inr g) = rw (e, g)
@@ -47,8 +46,8 @@ module _ (z : Sizes) (s : State) (d : Device) where
       go (inl e) (inl g) = rw (e, g, no-entry (s .free) e, no-entry (s .gc) g)
       go (inl e) (inr g) = rw (e, g, no-entry (s .free) e)
 
-  pub room-inside : Ready s → roomOf s .bucket < s .sizes .c
-  room-inside ready = rw room-bucket at (on-chip (s .sizes) _ (free-head (roomed s ready z d)))
+  pub room-inside : Ready s → roomOf s .bucket < body (s .sizes)
+  room-inside ready = rw room-bucket at (free-head (roomed s ready z d))
 
   pub takes : {n : ℕ} → Fresh s n → Takes (s .sizes) (roomOf s) n
   takes f = record {
@@ -67,7 +66,7 @@ module _ (z : Sizes) (s : State) (d : Device) where
 
 -- the state moves by m once the log is in its room
 pub fresh-by : (z : Sizes) (s : State) (r : Run) (m : State → State) → Ready s → (k b off : ℕ) (bytes : List ℕ) {run : Run} {t : State}
-    → run ≡ runAll z (freshStores z (roomOf s) k b off bytes) r → t ≡ makeRoom z s (r .device) .state
+    → run ≡ runAll z (freshStores z (r .device) (roomOf s) k b off bytes) r → t ≡ makeRoom z s (r .device) .state
     → record { run = run; state = m t }
     ≡ after z (makeRoom z then (λ t d. record { stores = logStores z (head (t .free)) 0 k (t .next) b off bytes; state = m t })) s r
 unfolding after _then_ freshStores roomOf
@@ -75,7 +74,7 @@ fresh-by z s r m ready k b off bytes e h =
     rw (e, h, room-erases z s (r .device), room-bucket z s (r .device), roomed s ready z (r .device) .next)
 
 pub copied-by : (z : Sizes) (s : State) (r : Run) → Ready s → (k b : ℕ) (bytes : List ℕ) {run : Run} {t : State}
-    → run ≡ runAll z (freshStores z (roomOf s) k b 0 bytes) r → t ≡ makeRoom z s (r .device) .state
+    → run ≡ runAll z (freshStores z (r .device) (roomOf s) k b 0 bytes) r → t ≡ makeRoom z s (r .device) .state
     → record { run = run; state = takeCopy b t } ≡ after z (copy z k b bytes) s r
 unfolding copy fillCopy
 copied-by z s r ready k b bytes = fresh-by z s r (takeCopy b) ready k b 0 bytes

@@ -1,6 +1,6 @@
--- The bytes of a back-end bucket are the same on every chip and disk that show its own alike; and so they are once another bucket is erased.
+-- The bytes of a back-end bucket are the same on every chip and disk that show its own alike; and stores in the ledger, or that erase another bucket, leave them so.
 use Prim.Native.Nat.{ℕ, zero, suc, _≤_, _<_}
-use mathlib.Core.Path.{_≡_, refl, sym, ap, _∙_}
+use mathlib.Core.Path.{_≡_, refl, sym, _∙_}
 use mathlib.Core.Bool.{Bool, true, false, true≢false}
 use mathlib.Core.Logic.{_⊎_, inl, inr, _≢_}
 use mathlib.Core.List.{List, [], _∷_}
@@ -8,23 +8,22 @@ use native.Mathlib.Omega.{arith}
 use native.Mathlib.Decide.{ℕ-discrete}
 use lib.Dec.{eqb}
 use Rattle.lists.specs.Lists.{if_then_else_, times}
-use Rattle.lists.proofs.Tests.{true-or-false, or-left}
+use Rattle.lists.proofs.Tests.{true-or-false}
 use Rattle.lists.proofs.Counts.{times-self, times-cons}
 use Rattle.model.specs.declared.Sizes.{Sizes}
 use Rattle.model.specs.Sizes.{Device, body}
-use Rattle.model.specs.Spare.{blank}
-use Rattle.model.specs.Stores.{erase, apply, tagOf, bucketBytes, diskBytes}
-use Rattle.model.specs.Image.{pageFits, used, epochOf, wellFormed, mergeTo, merge}
+use Rattle.model.specs.Stores.{Store, program, erase, unit, apply, bucketBytes, diskBytes}
+use Rattle.model.specs.Image.{pageFits, used, bodyFits, mergeTo, merge}
 use Rattle.model.specs.Recover.{mergeAll}
 use Rattle.model.proofs.Tags.{blank-ff}
-use Rattle.model.proofs.Frames.{Lengths, tag-erased}
+use Rattle.model.proofs.Limits.{on-chip}
+use Rattle.model.proofs.Heads.{Blank, head-blank}
+use Rattle.model.proofs.Frames.{Lengths, Fits, lengths-kept, disk-programmed, tag-erased, disk-erased}
 use Rattle.model.proofs.Formed.{Formed, formed-of, formed-test}
-use Rattle.model.proofs.FormedKept.{erased-unused}
-use Rattle.model.proofs.Show.{Same, same-refl, same-erase, used-same, epochOf-same, pageFits-same, endsLog-same, logBytes-same}
+use Rattle.model.proofs.FormedKept.{blank-fits}
+use Rattle.model.proofs.Show.{Same, same-refl, same-trans, same-program, same-erase, used-same, epochOf-same, pageFits-same, endsLog-same, logBytes-same}
 use Rattle.queue.specs.declared.Found.{Found}
 use Rattle.meter.specs.Run.{Run, step, runAll}
-use Rattle.copying.specs.declared.Room.{Room}
-use Rattle.copying.specs.Fresh.{erases}
 use Rattle.copying.specs.Laid.{underBytes, listedBytes}
 
 module _ (z : Sizes) (p-low : 1 ≤ z .p) where
@@ -60,57 +59,105 @@ module _ (z : Sizes) (p-low : 1 ≤ z .p) where
       pub listed-same : (list : List ℕ) → ((c : ℕ) → 1 ≤ times c list → Same z d e c) → listedBytes z e list base b ≡ listedBytes z d list base b
       listed-same list write = rw under-same (merge-all-same list write (underBytes z d base b))
 
-  -- ---- an erase
+  -- ---- another bucket erased, and the ledger written to
 
-  -- e shows all but the cache bucket c as d does
+  -- e shows the buckets outside the ledger as d does, but for c, which may be blank
   pub record Unmoved (c : ℕ) (d e : Device) : Type 0 where
-    pub others : (x : ℕ) → x ≢ c → Same z d e x
+    pub others : (x : ℕ) → x < body z → x ≢ c → Same z d e x
+    pub own : Same z d e c ⊎ Blank z e c
     pub disk : (b : ℕ) → diskBytes z e b ≡ diskBytes z d b
-    pub formed : wellFormed z d ≡ true → wellFormed z e ≡ true
 
-  module _ (c : ℕ) (hc : c < z .c) where
-    module _ (d : Device) (lens : Lengths z d) where
-      blank-fits : (k : ℕ) → k < z .p → pageFits z (apply z d (erase c)) c k ≡ true
-      unfolding pageFits
-      blank-fits zero h = or-left (blank (tagOf z (apply z d (erase c)) c zero)) _ (ap blank (tag-erased z d lens c hc zero h) ∙ blank-ff)
-      blank-fits (suc k) h = or-left (blank (tagOf z (apply z d (erase c)) c (suc k))) _ (ap blank (tag-erased z d lens c hc (suc k) h) ∙ blank-ff)
+  as-it-was : (c : ℕ) (d : Device) → Unmoved c d d
+  as-it-was c d = record { others = λ x h ne. same-refl z d x; own = inl (same-refl z d c); disk = λ b. refl }
 
-      formed-erased : Formed z d → Formed z (apply z d (erase c))
-      formed-erased f = record {
-        pages-fit = λ x k hx hk. page x k hx hk (ℕ-discrete x c);
-        epochs-differ = λ x y hx hy ux uy same. f .epochs-differ x y hx hy (still x ux .0) (still y uy .0) (sym (still x ux .1) ∙ same ∙ still y uy .1);
-      }
-        where
-          page : (x k : ℕ) → x < body z → k < z .p → Dec (x ≡ c) → pageFits z (apply z d (erase c)) x k ≡ true
-          page x k hx hk (yes q) = rw q (blank-fits k hk)
-          page x k hx hk (no ne) = pageFits-same z p-low d (apply z d (erase c)) x (same-erase z d lens c hc x ne) k hk ∙ f .pages-fit x k hx hk
-
-          other : (x : ℕ) → used z (apply z d (erase c)) x ≡ true → x ≢ c
-          other x u q = true≢false (sym u ∙ (ap (used z (apply z d (erase c))) q ∙ erased-unused z p-low d lens c hc))
-
-          still : (x : ℕ) → used z (apply z d (erase c)) x ≡ true → (used z d x ≡ true) × (epochOf z (apply z d (erase c)) x ≡ epochOf z d x)
-          still x u =
-              let same = same-erase z d lens c hc x (other x u) in
-              (sym (used-same z p-low d (apply z d (erase c)) x same) ∙ u, epochOf-same z p-low d (apply z d (erase c)) x same)
-
-      erased : Unmoved c d (apply z d (erase c))
-      unfolding apply diskBytes
-      erased = record {
-        others = λ x ne. same-erase z d lens c hc x ne;
-        disk = λ b. refl;
-        formed = λ h. formed-test z (apply z d (erase c)) (formed-erased (formed-of z d h));
-      }
-
-    as-it-was : (d : Device) → Unmoved c d d
-    as-it-was d = record { others = λ x ne. same-refl z d x; disk = λ b. refl; formed = λ h. h }
-
-  -- the room's erase, made or cut
-  pub erases-unmoved : (room : Room) → room .bucket < z .c → (r : Run) → Lengths z (r .device) → Unmoved (room .bucket) (r .device) (runAll z (erases room) r .device)
-  unfolding erases runAll step
-  erases-unmoved room hc r lens = go (true-or-false (room .erase)) (true-or-false (eqb (r .meter .left) 0))
+  unmoved-then : (c : ℕ) (d e f : Device) → Unmoved c d e → Unmoved c e f → Unmoved c d f
+  unmoved-then c d e f u v = record {
+    others = λ x h ne. same-trans z (u .others x h ne) (v .others x h ne);
+    own = go (u .own) (v .own);
+    disk = λ b. v .disk b ∙ u .disk b;
+  }
     where
-      go : (room .erase ≡ true) ⊎ (room .erase ≡ false) → (eqb (r .meter .left) 0 ≡ true) ⊎ (eqb (r .meter .left) 0 ≡ false)
-          → Unmoved (room .bucket) (r .device) (runAll z (erases room) r .device)
-      go (inr n) g = rw n (as-it-was (room .bucket) hc (r .device))
-      go (inl e) (inl none) = rw (e, none) (as-it-was (room .bucket) hc (r .device))
-      go (inl e) (inr some) = rw (e, some) (erased (room .bucket) hc (r .device) lens)
+      go : Same z d e c ⊎ Blank z e c → Same z e f c ⊎ Blank z f c → Same z d f c ⊎ Blank z f c
+      go s (inr w) = inr w
+      go (inl s) (inl t) = inl (same-trans z s t)
+      go (inr w) (inl t) = inr (λ k hk. t .tags-same k hk ∙ w k hk)
+
+  module _ {c : ℕ} {d e : Device} (u : Unmoved c d e) where
+    -- a bucket that is still used is as it was
+    still : (x : ℕ) → x < body z → used z e x ≡ true → Same z d e x
+    unfolding used
+    still x hx h = go (ℕ-discrete x c) (u .own)
+      where
+        go : Dec (x ≡ c) → Same z d e c ⊎ Blank z e c → Same z d e x
+        go (no ne) o = u .others x hx ne
+        go (yes q) (inl s) = rw q s
+        go (yes q) (inr w) = absurd (true≢false (sym (rw q at h) ∙ rw (head-blank z p-low e c w, blank-ff)))
+
+    page-fits : (x k : ℕ) → x < body z → k < z .p → pageFits z d x k ≡ true → pageFits z e x k ≡ true
+    page-fits x k hx hk h = go (ℕ-discrete x c) (u .own)
+      where
+        go : Dec (x ≡ c) → Same z d e c ⊎ Blank z e c → pageFits z e x k ≡ true
+        go (no ne) o = pageFits-same z p-low d e x (u .others x hx ne) k hk ∙ h
+        go (yes q) (inl s) = pageFits-same z p-low d e x (rw q s) k hk ∙ h
+        go (yes q) (inr w) = blank-fits z p-low e x k (rw (q, w k hk) blank-ff)
+
+    -- the page rules hold as before
+    pub formed : bodyFits z d ≡ true → bodyFits z e ≡ true
+    formed h = formed-test z e (record {
+      pages-fit = λ x k hx hk. page-fits x k hx hk (f .pages-fit x k hx hk);
+      epochs-differ = λ x y hx hy ux uy same. f .epochs-differ x y hx hy (before x hx ux) (before y hy uy)
+          (sym (epochOf-same z p-low d e x (still x hx ux)) ∙ same ∙ epochOf-same z p-low d e y (still y hy uy));
+    })
+      where
+        f : Formed z d
+        f = formed-of z d h
+
+        before : (x : ℕ) → x < body z → used z e x ≡ true → used z d x ≡ true
+        before x hx ux = sym (used-same z p-low d e x (still x hx ux)) ∙ ux
+
+  -- ---- the stores that leave the buckets so
+
+  -- in the ledger, or the erase of c
+  abbrev pub Beside : ℕ → Store → Type 0
+  Beside c (program l k bytes tag) = body z ≤ l
+  Beside c (erase l) = (l ≡ c) ⊎ (body z ≤ l)
+  Beside c (unit u bytes) = ⊥
+
+  abbrev pub AllBeside : ℕ → List Store → Type 0
+  AllBeside c [] = Unit {0}
+  AllBeside c (s ∷ ss) = Fits z s × Beside c s × AllBeside c ss
+
+  module _ (c : ℕ) (hc : c < body z) where
+    store-unmoved : (d : Device) → Lengths z d → (s : Store) → Fits z s → Beside c s → Unmoved c d (apply z d s)
+    store-unmoved d lens (program l k bytes tag) f b = record {
+      others = λ x h ne. same-program z d lens l k bytes tag f x (λ q. omega arith);
+      own = inl (same-program z d lens l k bytes tag f c (λ q. omega arith));
+      disk = disk-programmed z d lens l k bytes tag f;
+    }
+    store-unmoved d lens (erase l) f (inl q) = rw q (record {
+      others = λ x h ne. same-erase z d lens c (on-chip z c hc) x ne;
+      own = inr (tag-erased z d lens c (on-chip z c hc));
+      disk = disk-erased z d lens c (on-chip z c hc);
+    })
+    store-unmoved d lens (erase l) f (inr b) = record {
+      others = λ x h ne. same-erase z d lens l f x (λ q. omega arith);
+      own = inl (same-erase z d lens l f c (λ q. omega arith));
+      disk = disk-erased z d lens l f;
+    }
+    store-unmoved d lens (unit u bytes) f b = absurd b
+
+    -- made or cut
+    step-unmoved : (s : Store) (r : Run) → Lengths z (r .device) → Fits z s → Beside c s → Unmoved c (r .device) (step z s r .device) × Lengths z (step z s r .device)
+    unfolding step
+    step-unmoved s r lens f b = go (true-or-false (eqb (r .meter .left) 0))
+      where
+        go : (eqb (r .meter .left) 0 ≡ true) ⊎ (eqb (r .meter .left) 0 ≡ false) → Unmoved c (r .device) (step z s r .device) × Lengths z (step z s r .device)
+        go (inl none) = rw none (as-it-was c (r .device), lens)
+        go (inr some) = rw some (store-unmoved (r .device) lens s f b, lengths-kept z (r .device) lens s f)
+
+    pub run-unmoved : (ss : List Store) (r : Run) → Lengths z (r .device) → AllBeside c ss → Unmoved c (r .device) (runAll z ss r .device)
+    unfolding runAll
+    run-unmoved [] r lens h = as-it-was c (r .device)
+    run-unmoved (s ∷ ss) r lens h =
+        let first = step-unmoved s r lens (h .0) (h .1) in
+        unmoved-then c (r .device) (step z s r .device) _ (first .0) (run-unmoved ss (step z s r) (first .1) (h .2))

@@ -1,14 +1,14 @@
 -- Logs in a bucket just allocated: when one can be made, and its stores.
 use Prim.Native.Nat.{ℕ, _≤_, _<_}
 use mathlib.Core.Bool.{not, _&&_}
-use mathlib.Core.List.{List, [], _∷_, _++_}
+use mathlib.Core.List.{List, [], _++_}
 use lib.ListN.{length}
 use Rattle.lists.specs.Lists.{if_then_else_, head, empty, times}
 use Rattle.model.specs.declared.Sizes.{Sizes}
-use Rattle.model.specs.Sizes.{bucketSize}
-use Rattle.model.specs.Stores.{Store, erase}
+use Rattle.model.specs.Sizes.{Device, bucketSize, body}
+use Rattle.model.specs.Stores.{Store}
 use Rattle.model.specs.State.{State, without, queued}
-use Rattle.model.specs.Steps.{logStores}
+use Rattle.model.specs.Steps.{logStores, notedErase}
 use Rattle.model.proofs.Limits.{Limits}
 use Rattle.steps.specs.Ready.{Ready}
 use Rattle.copying.specs.declared.Room.{Room}
@@ -21,17 +21,18 @@ roomOf s = record {
   epoch = s .next;
 }
 
-unfoldable pub erases : Room → List Store
-erases room = if room .erase then erase (room .bucket) ∷ [] else []
+-- on the chip d
+unfoldable pub erases : Sizes → Device → Room → List Store
+erases z d room = if room .erase then notedErase z d (room .bucket) else []
 
 -- the room, once it is blank, and the log in it
-unfoldable pub freshStores : Sizes → Room → (kind b off : ℕ) → List ℕ → List Store
-freshStores z room k b off bytes = erases room ++ logStores z (room .bucket) 0 k (room .epoch) b off bytes
+unfoldable pub freshStores : Sizes → Device → Room → (kind b off : ℕ) → List ℕ → List Store
+freshStores z d room k b off bytes = erases z d room ++ logStores z (room .bucket) 0 k (room .epoch) b off bytes
 
--- a log of n bytes goes into a bucket of the chip
+-- a log of n bytes goes into a bucket that may stand in queues
 pub record Takes (z : Sizes) (room : Room) (n : ℕ) : Type 0 where
   pub limits : Limits z
-  pub bucket : room .bucket < z .c
+  pub bucket : room .bucket < body z
   pub some : 1 ≤ n
   pub most : n ≤ bucketSize z
 

@@ -9,7 +9,7 @@ use Rattle.model.specs.declared.Sizes.{Sizes}
 use Rattle.model.specs.declared.Entry.{Entry}
 use Rattle.model.specs.Sizes.{Device, body}
 use Rattle.model.specs.Stores.{bucketBytes, diskBytes}
-use Rattle.model.specs.Image.{wellFormed}
+use Rattle.model.specs.Image.{bodyFits}
 use Rattle.model.specs.State.{isBelow, holds, cacheOf, blankOf, isMarked}
 use Rattle.model.specs.Recover.{mergeAll}
 use Rattle.model.proofs.Limits.{Limits}
@@ -34,7 +34,7 @@ module _ (z : Sizes) (d : Device) where
 pub record Laid (z : Sizes) (list : List ℕ) (base : Found) (b target : ℕ) (flash spare disk : List ℕ) : Type 0 where
   pub limits : Limits z
   pub lent : Lent z flash spare disk
-  pub well-formed : wellFormed z (spareOnly spare) ≡ true
+  pub well-formed : bodyFits z (spareOnly spare) ≡ true
   pub back : b < z .b
   pub bucket : target < z .c
   pub logs : all (isBelow (body z)) list ≡ true

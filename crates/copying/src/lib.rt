@@ -10,10 +10,11 @@ ghost use mathlib.Core.Bool.{false};
 ghost use Prim.Native.Nat.{_*_, _≤_, _<_};
 ghost use lib.ListN.{length, take};
 ghost use Rattle.lists.specs.Lists.{splice};
-ghost use Rattle.model.specs.Sizes.{bucketSize};
+ghost use Rattle.model.specs.Sizes.{bucketSize, body};
 ghost use Rattle.model.specs.Stores.{bucketBytes};
 ghost use Rattle.model.specs.State.{cacheOf};
 ghost use Rattle.model.specs.Steps.{merged, copy};
+ghost use Rattle.model.proofs.Limits.{Limits};
 ghost use Rattle.geometry.specs.Geometry.{device, Lent};
 ghost use Rattle.meter.specs.Run.{running, runAll};
 ghost use Rattle.log.specs.Logs.{allStores};
@@ -61,12 +62,12 @@ fn erase_room(
     disk: &mut [u8],
 ) -> Meter
     requires { ⌜ Lent z (now flash) (now spare) (now disk) ⌝ }
-    requires { ⌜ room .bucket < z .c ⌝ }
-    ensures { λ r. ⌜ running (now (flash .exit)) (now (spare .exit)) (now (disk .exit)) r ≡ runAll z (erases room) (running (now (flash .entry)) (now (spare .entry)) (now (disk .entry)) meter) ⌝ }
+    requires { ⌜ Limits z × (room .bucket < body z) ⌝ }
+    ensures { λ r. ⌜ running (now (flash .exit)) (now (spare .exit)) (now (disk .exit)) r ≡ runAll z (erases z (device (now (flash .entry)) (now (spare .entry)) (now (disk .entry))) room) (running (now (flash .entry)) (now (spare .entry)) (now (disk .entry)) meter) ⌝ }
     ensures { λ _. ⌜ Lent z (now (flash .exit)) (now (spare .exit)) (now (disk .exit)) ⌝ }
 {
     if room.erase {
-        return meter::erase_bucket(meter, z, room.bucket, flash, spare, disk);
+        return noted::erase_noted(meter, z, room.bucket, flash, spare, disk);
     }
     meter
 }
@@ -100,7 +101,7 @@ pub fn fresh_log(
 ) -> Meter
     requires { ⌜ Lent z (now flash) (now spare) (now disk) ⌝ }
     requires { ⌜ Takes z room (length (now bytes)) ⌝ }
-    ensures { λ r. ⌜ running (now (flash .exit)) (now (spare .exit)) (now (disk .exit)) r ≡ runAll z (freshStores z room kind b offset (now (bytes .entry))) (running (now (flash .entry)) (now (spare .entry)) (now (disk .entry)) meter) ⌝ }
+    ensures { λ r. ⌜ running (now (flash .exit)) (now (spare .exit)) (now (disk .exit)) r ≡ runAll z (freshStores z (device (now (flash .entry)) (now (spare .entry)) (now (disk .entry))) room kind b offset (now (bytes .entry))) (running (now (flash .entry)) (now (spare .entry)) (now (disk .entry)) meter) ⌝ }
     ensures { λ _. ⌜ Lent z (now (flash .exit)) (now (spare .exit)) (now (disk .exit)) ⌝ }
 {
     let erased = erase_room(meter, z, room, flash, spare, disk);

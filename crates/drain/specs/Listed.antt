@@ -4,7 +4,7 @@ use mathlib.Core.Path.{_≡_}
 use mathlib.Core.Bool.{true}
 use mathlib.Core.List.{List}
 use Rattle.lists.specs.Lists.{member}
-use Rattle.model.specs.Image.{wellFormed}
+use Rattle.model.specs.Image.{bodyFits}
 use Rattle.model.specs.State.{State, stateFits}
 use Rattle.model.specs.Operations.{unclean}
 use Rattle.image.specs.Chip.{spareOnly}
@@ -13,7 +13,7 @@ use Rattle.steps.specs.Ready.{Orderly}
 -- the state's queues fit a chip made by the page rules
 pub record Drains (s : State) (spare : List ℕ) : Type 0 where
   pub orderly : Orderly s
-  pub well-formed : wellFormed (s .sizes) (spareOnly spare) ≡ true
+  pub well-formed : bodyFits (s .sizes) (spareOnly spare) ≡ true
   pub fits : stateFits s (spareOnly spare) ≡ true
 
 -- and the unclean back-end buckets are the listed ones

@@ -4,7 +4,7 @@ use state::State;
 use steps::Turn;
 ghost use mathlib.Core.Path.{_≡_};
 ghost use mathlib.Core.Bool.{true};
-ghost use Rattle.model.specs.Image.{wellFormed};
+ghost use Rattle.model.specs.Image.{bodyFits};
 ghost use Rattle.model.specs.Steps.{merged, evict};
 ghost use Rattle.geometry.specs.Geometry.{device, Lent};
 ghost use Rattle.image.specs.Chip.{spareOnly};
@@ -23,7 +23,7 @@ fn put_away(
     disk: &mut [u8],
 ) -> Turn
     requires { ⌜ Lent (s .sizes) (now flash) (now spare) (now disk) ⌝ }
-    requires { ⌜ Evicts (placesOf s) b × (wellFormed (s .sizes) (spareOnly (now spare)) ≡ true) ⌝ }
+    requires { ⌜ Evicts (placesOf s) b × (bodyFits (s .sizes) (spareOnly (now spare)) ≡ true) ⌝ }
     ensures { λ r. ⌜ reached (now (flash .exit)) (now (spare .exit)) (now (disk .exit)) r ≡ after (s .sizes) (putAway (s .sizes) b (merged (s .sizes) (placesOf s) (device (now (flash .entry)) (now (spare .entry)) (now (disk .entry))) b)) (placesOf s) (running (now (flash .entry)) (now (spare .entry)) (now (disk .entry)) meter) ⌝ }
     ensures { λ _. ⌜ Lent (s .sizes) (now (flash .exit)) (now (spare .exit)) (now (disk .exit)) ⌝ }
 {
@@ -47,7 +47,7 @@ fn put_out(
     disk: &mut [u8],
 ) -> Turn
     requires { ⌜ Lent (s .sizes) (now flash) (now spare) (now disk) ⌝ }
-    requires { ⌜ Evicts (placesOf s) b × (wellFormed (s .sizes) (spareOnly (now spare)) ≡ true) ⌝ }
+    requires { ⌜ Evicts (placesOf s) b × (bodyFits (s .sizes) (spareOnly (now spare)) ≡ true) ⌝ }
     ensures { λ r. ⌜ reached (now (flash .exit)) (now (spare .exit)) (now (disk .exit)) r ≡ after (s .sizes) (putOut (s .sizes) b) (placesOf s) (running (now (flash .entry)) (now (spare .entry)) (now (disk .entry)) meter) ⌝ }
     ensures { λ _. ⌜ Lent (s .sizes) (now (flash .exit)) (now (spare .exit)) (now (disk .exit)) ⌝ }
 {
@@ -67,7 +67,7 @@ pub fn evict(
     disk: &mut [u8],
 ) -> Turn
     requires { ⌜ Lent (s .sizes) (now flash) (now spare) (now disk) ⌝ }
-    requires { ⌜ Evicts (placesOf s) b × (wellFormed (s .sizes) (spareOnly (now spare)) ≡ true) ⌝ }
+    requires { ⌜ Evicts (placesOf s) b × (bodyFits (s .sizes) (spareOnly (now spare)) ≡ true) ⌝ }
     ensures { λ r. ⌜ reached (now (flash .exit)) (now (spare .exit)) (now (disk .exit)) r ≡ after (s .sizes) (evict (s .sizes) b) (placesOf s) (running (now (flash .entry)) (now (spare .entry)) (now (disk .entry)) meter) ⌝ }
     ensures { λ _. ⌜ Lent (s .sizes) (now (flash .exit)) (now (spare .exit)) (now (disk .exit)) ⌝ }
 {

@@ -8,14 +8,14 @@ use borrow.Author.Tests.{eq-eqb, ne-eqb, leb-true, leb-false}
 use Rattle.model.specs.declared.Sizes.{Sizes}
 use Rattle.model.specs.Sizes.{Device, body}
 use Rattle.model.specs.Spare.{blank}
-use Rattle.model.specs.Image.{wellFormed, used, pageFits, blanks}
+use Rattle.model.specs.Image.{bodyFits, used, pageFits, blanks}
 use Rattle.model.specs.State.{allBlank}
 use Rattle.model.proofs.Tags.{blank-ff}
 use Rattle.model.proofs.Heads.{head-page}
 use Rattle.model.proofs.Formed.{formed-of, blank-from, unused-blank}
 use Rattle.model.proofs.Buckets.{blanks-most}
 
-module _ (z : Sizes) (d : Device) (some : 1 ≤ z .p) (formed : wellFormed z d ≡ true) (c : ℕ) (inside : c < body z) where
+module _ (z : Sizes) (d : Device) (some : 1 ≤ z .p) (formed : bodyFits z d ≡ true) (c : ℕ) (inside : c < body z) where
   fit : (k : ℕ) → k < z .p → pageFits z d c k ≡ true
   fit k h = formed-of z d formed .pages-fit c k inside h
 

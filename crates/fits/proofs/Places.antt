@@ -20,7 +20,7 @@ unfolding viewOf every
 fits-places s d limits fits =
     let v = viewOf s in
     let hold = queues-hold v d fits in
-    rw (places-counted s, le-leb (length (v .reads)) 64 (omega (arith, hold .reads, limits .r-high)), le-leb (length (v .writes)) 64 (omega (arith, hold .writes, limits .w-high)), le-leb (length (v .gc)) 256 (omega (arith, hold .total, limits .body-high, limits .c-high)), le-leb (length (v .free)) 256 (omega (arith, hold .total, limits .body-high, limits .c-high)))
+    rw (places-counted s, le-leb (length (v .reads)) 64 (omega (arith, hold .reads, limits .r-high)), le-leb (length (v .writes)) 64 (omega (arith, hold .writes, limits .w-high)), le-leb (length (v .gc)) 256 (omega (arith, hold .total, limits .ledger-in, limits .c-high)), le-leb (length (v .free)) 256 (omega (arith, hold .total, limits .ledger-in, limits .c-high)))
 
 pub too-long : (s : State) (d : Device) → Limits (s .sizes) → hasPlaces s ≡ false → stateFits (viewOf s) d ≡ false
 too-long s d limits h = ⊎-elim (λ fits. absurd (true≢false (sym (fits-places s d limits fits) ∙ h))) (λ e. e) (true-or-false (stateFits (viewOf s) d))

@@ -4,12 +4,15 @@ use model::Sizes;
 use state::State;
 ghost use mathlib.Core.Path.{_≡_};
 ghost use mathlib.Core.Bool.{true};
-ghost use Prim.Native.Nat.{_<_};
-ghost use Rattle.lists.specs.Lists.{all};
+ghost use Prim.Native.Nat.{_*_, _<_};
+ghost use lib.Dec.{eqb};
+ghost use Rattle.lists.specs.Lists.{all, maxBelow};
 ghost use Rattle.model.specs.Sizes.{body};
-ghost use Rattle.model.specs.Image.{bucketFits, epochOf, wellFormed};
+ghost use Rattle.model.specs.Spare.{blank, kind};
+ghost use Rattle.model.specs.Image.{bucketFits, headTag, epochOf, bodyFits};
+ghost use Rattle.model.specs.Ledger.{entriesFit, wellFormed};
 ghost use Rattle.model.specs.State.{caches, queued, isBelow, readAgrees, writeAgrees, allBlank, markFits, topEpoch, stateFits};
-ghost use Rattle.image.specs.Chip.{Chip, spareOnly};
+ghost use Rattle.image.specs.Chip.{Chip, spareOnly, Headed};
 ghost use Rattle.fifo.specs.View.{listOf};
 ghost use Rattle.queue.specs.View.{entriesOf};
 ghost use Rattle.state.specs.View.{placesOf, viewOf};
@@ -35,6 +38,8 @@ fn places_fit(s: State, spare: &[u8]) -> bool
     requires { ⌜ wellFormed (s .sizes) (spareOnly (now spare)) ≡ true ⌝ }
     ensures { λ r. ⌜ r ≡ stateFits (placesOf s) (spareOnly (now (spare .entry))) ⌝ }
 {
+    // to hand on `s.sizes` itself would keep a copy of the whole state
+    let z = s.sizes;
     if !once::buckets_once(s) {
         return false;
     }
@@ -42,7 +47,7 @@ fn places_fit(s: State, spare: &[u8]) -> bool
     let tags = tags_agree(s, spare);
     let numbers = numbers_fit(s, spare);
     let marks = marks_fit(s.reads, s.writes);
-    queues & tags & numbers & marks
+    queues & tags & numbers & marks & ledger::one_in_use(z, spare)
 }
 
 fn queues_fit(s: State) -> bool
@@ -56,7 +61,7 @@ fn queues_fit(s: State) -> bool
 
 fn tags_agree(s: State, spare: &[u8]) -> bool
     requires { ⌜ Chip (s .sizes) (now spare) ⌝ }
-    requires { ⌜ wellFormed (s .sizes) (spareOnly (now spare)) ≡ true ⌝ }
+    requires { ⌜ bodyFits (s .sizes) (spareOnly (now spare)) ≡ true ⌝ }
     requires { ⌜ all (isBelow (body (s .sizes))) (queued (placesOf s)) ≡ true ⌝ }
     ensures { λ r. ⌜ r ≡ tagsAgree (placesOf s) (spareOnly (now (spare .entry))) ⌝ }
 {
@@ -101,21 +106,22 @@ fn marks_fit(reads: queue::Queue, writes: queue::Queue) -> bool
 fn epoch_there(z: Sizes, c: usize, spare: &[u8]) -> u32
     requires { ⌜ Chip z (now spare) ⌝ }
     requires { ⌜ c < z .c ⌝ }
-    requires { ⌜ bucketFits z (spareOnly (now spare)) c ≡ true ⌝ }
+    requires { ⌜ blank (headTag z (spareOnly (now spare)) c) ≡ eqb (kind (headTag z (spareOnly (now spare)) c)) 255 ⌝ }
     ensures { λ r. ⌜ r ≡ epochOf z (spareOnly (now (spare .entry))) c ⌝ }
 {
-    if image::used(z, c, spare) {
-        image::used_epoch(z, c, spare)
-    } else {
+    let page = c * z.p;
+    if spare::kind_at(spare, page) == spare::NO_KIND {
         0
+    } else {
+        spare::epoch_at(spare, page)
     }
 }
 
-// The largest epoch of a bucket on the chip, or 0.
-pub fn top_epoch(z: Sizes, spare: &[u8]) -> u64
+// The largest epoch of a bucket outside the ledger, or 0.
+fn body_top(z: Sizes, spare: &[u8]) -> u64
     requires { ⌜ Chip z (now spare) ⌝ }
-    requires { ⌜ wellFormed z (spareOnly (now spare)) ≡ true ⌝ }
-    ensures { λ r. ⌜ r ≡ topEpoch z (spareOnly (now (spare .entry))) ⌝ }
+    requires { ⌜ Headed z (spareOnly (now spare)) ⌝ }
+    ensures { λ r. ⌜ r ≡ maxBelow (body z) (epochOf z (spareOnly (now (spare .entry)))) ⌝ }
 {
     let end = geometry::body(z);
     let mut top = 0;
@@ -128,6 +134,18 @@ pub fn top_epoch(z: Sizes, spare: &[u8]) -> u64
         }
     }
     top
+}
+
+// The largest epoch on the chip, the ledger's entries included, or 0. Recovery asks for it where buckets may have holes.
+pub fn top_epoch(z: Sizes, spare: &[u8]) -> u64
+    requires { ⌜ Chip z (now spare) ⌝ }
+    requires { ⌜ Headed z (spareOnly (now spare)) ⌝ }
+    requires { ⌜ entriesFit z (spareOnly (now spare)) ≡ true ⌝ }
+    ensures { λ r. ⌜ r ≡ topEpoch z (spareOnly (now (spare .entry))) ⌝ }
+{
+    let buckets = body_top(z, spare);
+    let entries = ledger::top_entry(z, spare);
+    if buckets < entries { entries } else { buckets }
 }
 
 fn read_agrees(e: Entry, z: Sizes, spare: &[u8]) -> bool
@@ -170,7 +188,7 @@ fn entry_agrees(e: Entry, written: bool, z: Sizes, spare: &[u8]) -> bool
 // All entries of the write queue, or of the read queue.
 fn queue_agrees(queue: queue::Queue, written: bool, z: Sizes, spare: &[u8]) -> bool
     requires { ⌜ Chip z (now spare) ⌝ }
-    requires { ⌜ wellFormed z (spareOnly (now spare)) ≡ true ⌝ }
+    requires { ⌜ bodyFits z (spareOnly (now spare)) ≡ true ⌝ }
     requires { ⌜ all (isBelow (body z)) (caches (entriesOf queue)) ≡ true ⌝ }
     ensures { λ r. ⌜ r ≡ all (agrees z (spareOnly (now (spare .entry))) written) (entriesOf queue) ⌝ }
 {
@@ -190,7 +208,7 @@ fn queue_agrees(queue: queue::Queue, written: bool, z: Sizes, spare: &[u8]) -> b
 // A bucket made by the page rules has blank pages alone if its first is blank.
 fn all_blank(z: Sizes, c: usize, spare: &[u8]) -> bool
     requires { ⌜ Chip z (now spare) ⌝ }
-    requires { ⌜ wellFormed z (spareOnly (now spare)) ≡ true ⌝ }
+    requires { ⌜ bodyFits z (spareOnly (now spare)) ≡ true ⌝ }
     requires { ⌜ c < body z ⌝ }
     ensures { λ r. ⌜ r ≡ allBlank z (spareOnly (now (spare .entry))) c ⌝ }
 {
@@ -199,7 +217,7 @@ fn all_blank(z: Sizes, c: usize, spare: &[u8]) -> bool
 
 fn free_blank(free: fifo::Fifo, z: Sizes, spare: &[u8]) -> bool
     requires { ⌜ Chip z (now spare) ⌝ }
-    requires { ⌜ wellFormed z (spareOnly (now spare)) ≡ true ⌝ }
+    requires { ⌜ bodyFits z (spareOnly (now spare)) ≡ true ⌝ }
     requires { ⌜ all (isBelow (body z)) (listOf free) ≡ true ⌝ }
     ensures { λ r. ⌜ r ≡ all (allBlank z (spareOnly (now (spare .entry)))) (listOf free) ⌝ }
 {

@@ -10,7 +10,7 @@ use Rattle.lists.specs.Lists.{if_then_else_, part}
 use Rattle.model.specs.declared.Sizes.{Sizes}
 use Rattle.model.specs.Sizes.{Device, bucketSize, body}
 use Rattle.model.specs.Stores.{bucketBytes, diskBytes}
-use Rattle.model.specs.Image.{wellFormed, merge}
+use Rattle.model.specs.Image.{bodyFits, merge}
 use Rattle.model.specs.State.{State, holds, cacheOf, cachesOf}
 use Rattle.model.specs.Steps.{baseBytes, merged}
 use Rattle.model.specs.Recover.{mergeAll}
@@ -27,7 +27,7 @@ use Rattle.steps.proofs.Kept.{body-some}
 use Rattle.gather.specs.Sources.{Sources}
 
 -- the cache buckets of an orderly state are such as stand in queues
-pub sources-of : {s : State} {b : ℕ} {flash spare disk : List ℕ} → Orderly s → wellFormed (s .sizes) (spareOnly spare) ≡ true → b < s .sizes .b
+pub sources-of : {s : State} {b : ℕ} {flash spare disk : List ℕ} → Orderly s → bodyFits (s .sizes) (spareOnly spare) ≡ true → b < s .sizes .b
     → Lent (s .sizes) flash spare disk → Sources s b flash spare disk
 sources-of {s} {b} o formed back lent = record {
   limits = o .limits;

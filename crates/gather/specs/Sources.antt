@@ -4,7 +4,7 @@ use mathlib.Core.Path.{_≡_}
 use mathlib.Core.Bool.{true}
 use mathlib.Core.List.{List}
 use Rattle.model.specs.Sizes.{body}
-use Rattle.model.specs.Image.{wellFormed}
+use Rattle.model.specs.Image.{bodyFits}
 use Rattle.model.specs.State.{State, cacheOf}
 use Rattle.model.proofs.Limits.{Limits}
 use Rattle.geometry.specs.Geometry.{Lent}
@@ -14,7 +14,7 @@ use Rattle.image.specs.Chip.{spareOnly}
 pub record Sources (s : State) (b : ℕ) (flash spare disk : List ℕ) : Type 0 where
   pub limits : Limits (s .sizes)
   pub lent : Lent (s .sizes) flash spare disk
-  pub well-formed : wellFormed (s .sizes) (spareOnly spare) ≡ true
+  pub well-formed : bodyFits (s .sizes) (spareOnly spare) ≡ true
   pub back : b < s .sizes .b
   pub read : cacheOf b (s .reads) < body (s .sizes)
   pub write : cacheOf b (s .writes) < body (s .sizes)

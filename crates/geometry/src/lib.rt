@@ -19,11 +19,11 @@ fn within(low: usize, high: usize, n: usize) -> bool
 
 // R + W is added up only where both are within their limits: the sum then fits.
 fn queues_within(z: Sizes) -> bool
-    ensures { λ r. ⌜ r ≡ every (within 1 64 (z .r) ∷ within 1 64 (z .w) ∷ leb (z .r + z .w + 1) (z .c) ∷ []) ⌝ }
+    ensures { λ r. ⌜ r ≡ every (within 1 64 (z .r) ∷ within 1 64 (z .w) ∷ leb (z .r + z .w + 3) (z .c) ∷ []) ⌝ }
 {
     if within(1, 64, z.r) {
         if within(1, 64, z.w) {
-            z.r + z.w + 1 <= z.c
+            z.r + z.w + 3 <= z.c
         } else {
             false
         }
@@ -40,11 +40,11 @@ pub fn limits(z: Sizes) -> bool
         & (within(1, 64, z.p) & (within(3, 256, z.c) & (within(1, 65535, z.b) & queues_within(z))))
 }
 
-// The cache buckets that stand in queues.
+// The cache buckets that stand in queues: all but the ledger's two.
 pub fn body(z: Sizes) -> usize
     ensures { λ r. ⌜ r ≡ body z ⌝ }
 {
-    z.c
+    if z.c < 2 { 0 } else { z.c - 2 }
 }
 
 // Number 2, once number 1 is passed: the limits keep the products within the machine's numbers.

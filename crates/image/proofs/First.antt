@@ -16,11 +16,11 @@ use Rattle.model.specs.declared.Sizes.{Sizes}
 use Rattle.model.specs.Sizes.{Device, pageIndex, body}
 use Rattle.model.specs.Spare.{blank, kind, epoch, ordinal, pages}
 use Rattle.model.specs.Stores.{tagOf}
-use Rattle.model.specs.Image.{pageFits, bucketFits, wellFormed, blanks}
+use Rattle.model.specs.Image.{pageFits, bucketFits, headTag, bodyFits, blanks}
 use Rattle.model.proofs.Formed.{page-fields, blank-from}
 use Rattle.model.proofs.Tags.{blank-true}
 use Rattle.spare.proofs.Looked.{kind-erased, epoch-erased}
-use Rattle.image.specs.Chip.{Chip}
+use Rattle.image.specs.Chip.{Chip, Headed}
 use Rattle.image.proofs.Place.{page-inside}
 
 pub first-inside : {z : Sizes} {spare : List ℕ} {c : ℕ} → Chip z spare → c < z .c → c * z .p * 16 + 16 ≤ length spare
@@ -41,8 +41,8 @@ by-byte tag n = go (blank tag) refl
 pub kind-used : (tag : List ℕ) → (kind tag ≡ 255 → ⊥) → blank tag ≡ false
 kind-used tag n = by-byte tag (λ e. n (kind-erased tag e))
 
-pub formed-bucket : (z : Sizes) (d : Device) → wellFormed z d ≡ true → (c : ℕ) → c < body z → bucketFits z d c ≡ true
-unfolding wellFormed
+pub formed-bucket : (z : Sizes) (d : Device) → bodyFits z d ≡ true → (c : ℕ) → c < body z → bucketFits z d c ≡ true
+unfolding bodyFits
 formed-bucket z d h c inside = all-below (body z) (bucketFits z d) (and-left (allBelow (body z) (bucketFits z d)) _ h) c inside
 
 -- in a bucket that fits a blank page is one with no kind
@@ -55,6 +55,10 @@ kind-blank z d c k fit h = go (blank (tagOf z d c k)) refl
     go false e =
         let f = page-fields z d c (all-below (z .p) (pageFits z d c) fit) k h e in
         sym (ne-eqb (kind (tagOf z d c k)) 255 (λ q. omega (arith, f .kind-high)))
+
+pub formed-headed : (z : Sizes) (d : Device) → 1 ≤ z .p → bodyFits z d ≡ true → Headed z d
+unfolding headTag
+formed-headed z d p-low h c inside = kind-blank z d c 0 (formed-bucket z d h c inside) p-low
 
 pub epoch-used : (tag : List ℕ) → (epoch tag ≡ 4294967295 → ⊥) → blank tag ≡ false
 epoch-used tag n = by-byte tag (λ e. n (epoch-erased tag e))

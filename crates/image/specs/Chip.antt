@@ -1,10 +1,13 @@
 -- Chips whose spare area is lent alone.
-use Prim.Native.Nat.{ℕ}
+use Prim.Native.Nat.{ℕ, _<_}
 use mathlib.Core.Path.{_≡_}
 use mathlib.Core.List.{List, []}
 use lib.ListN.{length}
+use lib.Dec.{eqb}
 use Rattle.model.specs.declared.Sizes.{Sizes}
-use Rattle.model.specs.Sizes.{Device, spareSize}
+use Rattle.model.specs.Sizes.{Device, body, spareSize}
+use Rattle.model.specs.Spare.{blank, kind}
+use Rattle.model.specs.Image.{headTag}
 use Rattle.model.proofs.Limits.{Limits}
 
 -- a spare area that belongs to the sizes
@@ -15,3 +18,7 @@ pub record Chip (z : Sizes) (spare : List ℕ) : Type 0 where
 -- a device with this spare area and nothing else
 abbrev pub spareOnly : List ℕ → Device
 spareOnly spare = record { flash = []; spare = spare; disk = [] }
+
+-- outside the ledger the first page of a bucket is blank if it has no kind
+abbrev pub Headed : Sizes → Device → Type 0
+Headed z d = (c : ℕ) → c < body z → blank (headTag z d c) ≡ eqb (kind (headTag z d c)) 255

@@ -1,6 +1,7 @@
 -- Laws of rows, and of tests and counts below a bound.
 use Prim.Native.Nat.{ℕ, zero, suc, _+_, _-_, _*_, _≤_, _<_, max}
 use mathlib.Core.Path.{_≡_, refl, sym, ap, ap₂, _∙_}
+use mathlib.Core.Logic.{_⊎_, inl, inr}
 use mathlib.Core.Bool.{Bool, true, false, _&&_, and-assoc, true≢false}
 use mathlib.Core.Bool as bool
 use mathlib.Core.List.{List, [], _∷_, _++_, map, append-nil, append-assoc}
@@ -12,8 +13,8 @@ use lib.ListN.{length, take, getD, length-append, List·getD-append}
 use lib.Seq.{getD-at, take-all, take-nil, take-append-le}
 use lib.Dec.{leb}
 use borrow.Author.Tests.{le-leb, lt-leb}
-use Rattle.lists.specs.Lists.{if_then_else_, row, below, allBelow, countBelow, maxBelow, concatMap}
-use Rattle.lists.proofs.Tests.{and-left, and-right, and-true}
+use Rattle.lists.specs.Lists.{if_then_else_, row, below, allBelow, anyBelow, countBelow, maxBelow, concatMap}
+use Rattle.lists.proofs.Tests.{and-left, and-right, and-true, true-or-false, or-right, or-left, or-second}
 
 -- ---- rows
 
@@ -63,6 +64,24 @@ all-below (suc n) t h k hk = go (λ q. all-below n t (and-left (allBelow n t) (t
     go : (k < n → t k ≡ true) → Dec (k ≡ n) → t k ≡ true
     go r (yes e) = rw e (and-right (allBelow n t) (t n) h)
     go r (no ne) = r (omega arith)
+
+pub any-below : (n : ℕ) (t : ℕ → Bool) → anyBelow n t ≡ true → (i : ℕ) × (i < n) × (t i ≡ true)
+unfolding anyBelow
+any-below zero t h = absurd (true≢false (sym h))
+any-below (suc n) t h = go (true-or-false (anyBelow n t)) (λ q. any-below n t q)
+  where
+    go : (anyBelow n t ≡ true) ⊎ (anyBelow n t ≡ false) → (anyBelow n t ≡ true → (i : ℕ) × (i < n) × (t i ≡ true)) → (i : ℕ) × (i < suc n) × (t i ≡ true)
+    go (inl q) more = let m = more q in (m .0, omega (arith, m .1), m .2)
+    go (inr q) more = (n, omega arith, or-right (anyBelow n t) (t n) h q)
+
+pub below-any : (n : ℕ) (t : ℕ → Bool) (i : ℕ) → i < n → t i ≡ true → anyBelow n t ≡ true
+unfolding anyBelow
+below-any zero t i h e = absurd (omega arith)
+below-any (suc n) t i h e = go (ℕ-discrete i n) (λ q. below-any n t i q e)
+  where
+    go : Dec (i ≡ n) → (i < n → anyBelow n t ≡ true) → anyBelow (suc n) t ≡ true
+    go (yes q) more = or-second (anyBelow n t) (t n) (ap t (sym q) ∙ e)
+    go (no q) more = or-left (anyBelow n t) (t n) (more (omega arith))
 
 pub below-all : (n : ℕ) (t : ℕ → Bool) → ((k : ℕ) → k < n → t k ≡ true) → allBelow n t ≡ true
 unfolding allBelow

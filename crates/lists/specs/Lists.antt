@@ -50,6 +50,11 @@ unfoldable pub allBelow : ℕ → (ℕ → Bool) → Bool
 allBelow zero t = true
 allBelow (suc n) t = allBelow n t && t n
 
+-- the test holds for some k < n
+unfoldable pub anyBelow : ℕ → (ℕ → Bool) → Bool
+anyBelow zero t = false
+anyBelow (suc n) t = anyBelow n t || t n
+
 -- how many k < n pass the test
 unfoldable pub countBelow : ℕ → (ℕ → Bool) → ℕ
 countBelow zero t = 0

@@ -1,6 +1,6 @@
 -- Laws of runs: one plan after another, what an allowance makes of a plan, and the outcome that follows.
 use Prim.Native.Nat.{ℕ, zero, suc, _+_, _-_, _<_, _≤_, min}
-use mathlib.Core.Path.{_≡_, refl, ap, _∙_}
+use mathlib.Core.Path.{_≡_, refl, sym, ap, _∙_}
 use mathlib.Core.Bool.{Bool, true, false, or-true, or-false}
 use mathlib.Core.Logic.{_⊎_, inl, inr}
 use mathlib.Core.List.{List, [], _∷_, _++_}
@@ -61,6 +61,19 @@ module _ (z : Sizes) where
   run-first (s ∷ ss) d zero = run-cut ss d ∙ rw (zero-sub (suc (length ss)), leb·suc-suc 0 (length ss), leb·zero (length ss))
   run-first (s ∷ ss) d (suc n) = rw (eqb·suc-zero n, sub-one (suc n)) (run-first ss (apply z d s) n ∙ rw (suc-sub-suc n (length ss), leb·suc-suc (suc n) (length ss)))
 
+  -- a plan in two parts: if the run is cut in the first, that is the run of both
+  pub run-stopped : (ss ts : List Store) (d : Device) (n : ℕ) → runAll z ss (fresh d n) .meter .cut ≡ true → runAll z (ss ++ ts) (fresh d n) ≡ runAll z ss (fresh d n)
+  run-stopped ss ts d n h =
+      let more : n < length ss = ltb-true n (length ss) (sym (ap (λ (r : Run). r .meter .cut) (run-first ss d n)) ∙ h) in
+      let gone : n - length ss ≡ 0 = omega arith in
+      rw (run-append ss ts (fresh d n), run-first ss d n, lt-ltb n (length ss) more, gone) (run-cut ts (applyAll z d (take n ss)))
+
+  -- if it is not, the first part was made whole
+  pub run-made : (ss : List Store) (d : Device) (n : ℕ) → runAll z ss (fresh d n) .meter .cut ≡ false → runAll z ss (fresh d n) .device ≡ applyAll z d ss
+  run-made ss d n h =
+      let enough : length ss ≤ n = ltb-false n (length ss) (sym (ap (λ (r : Run). r .meter .cut) (run-first ss d n)) ∙ h) in
+      rw (run-first ss d n, take-all n ss enough)
+
 -- A row of stores that lead from each device of a row to the next: so many are made as the allowance has left, and the run is cut if these are not all.
 module _ (z : Sizes) (f : ℕ → Store) (g : ℕ → Device) (m : Meter) where
   -- n of them were asked for
@@ -97,8 +110,18 @@ module _ (z : Sizes) (f : ℕ → Store) (g : ℕ → Device) (m : Meter) where
       go (no none) = asked-cut n (omega arith)
 
 -- the allowance does not grow
-pub run-left : (z : Sizes) (ss : List Store) (d : Device) (n : ℕ) → runAll z ss (fresh d n) .meter .left ≤ n
-run-left z ss d n = rw (run-first z ss d n) (omega arith)
+step-left : (z : Sizes) (s : Store) (r : Run) → step z s r .meter .left ≤ r .meter .left
+unfolding step
+step-left z s r = go (eqb (r .meter .left) 0) refl
+  where
+    go : (t : Bool) → eqb (r .meter .left) 0 ≡ t → step z s r .meter .left ≤ r .meter .left
+    go true e = rw e (omega arith)
+    go false e = rw e (omega arith)
+
+pub run-left : (z : Sizes) (ss : List Store) (r : Run) → runAll z ss r .meter .left ≤ r .meter .left
+unfolding runAll
+run-left z [] r = omega arith
+run-left z (s ∷ ss) r = omega (arith, run-left z ss (step z s r), step-left z s r)
 
 by-test : (n : ℕ) (k : Call) (s : State) (d : Device) (p : Plan) (t : Bool) → ltb n (length (p .stores)) ≡ t
     → ended n k s d p (record { device = applyAll (sizesOf k s) d (take n (p .stores)); meter = record { left = n - length (p .stores); cut = ltb n (length (p .stores)) } })

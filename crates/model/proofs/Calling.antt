@@ -14,14 +14,13 @@ use Rattle.model.specs.declared.Answer.{Answer}
 use Rattle.model.specs.declared.Answer.the-variants.{Done, Cut}
 use Rattle.model.specs.Tests.{Test, firstFailed}
 use Rattle.model.specs.Sizes.{Device, limits, lengths, bucketSize}
-use Rattle.model.specs.Image.{wellFormed}
+use Rattle.model.specs.Ledger.{wellFormed}
 use Rattle.model.specs.State.{State, stateFits}
 use Rattle.model.specs.Steps.{eraseStep}
 use Rattle.model.specs.Calls.{Call, formatCall, readCall, writeCall, eraseCall, drainCall, recoverCall, isDone, lentTests, runningTests, rangeFits, placeTests, tests, refusal, planOf, readBuffer}
 use Rattle.model.specs.Promise.{feed, diskPlace}
 use Rattle.model.proofs.Limits.{limits-of}
-use Rattle.model.proofs.Safe.{Sound, Inv, Owed, Pays}
-use Rattle.model.proofs.Prefix.{along-take}
+use Rattle.model.proofs.Invariant.{Inv, Owed, Pays}
 use Rattle.model.proofs.InsideLive.{inside, outside}
 use Rattle.model.proofs.Steps.{Good, erase-good}
 use Rattle.model.proofs.QueuesMerged.{read-plain}
@@ -87,11 +86,11 @@ feed-not z (recoverCall y) a plain e = refl
 -- ---- what is owed
 
 -- a plan that keeps the plain disk
-pub pays-good : (z : Sizes) (k : Call) (s : State) (d : Device) (plain : List ℕ) → feed z k Done plain ≡ plain → Good z plain (planOf k s d) d → Owed z k s d plain
+pub pays-good : (z : Sizes) → 1 ≤ z .p → (k : Call) (s : State) (d : Device) (plain : List ℕ) → feed z k Done plain ≡ plain → Good z plain (planOf k s d) d → Owed z k s d plain
 unfolding isDone
-pays-good z k s d plain e g = record {
-  cuts = λ n h. rw (feed-not z k Cut plain refl) (along-take z (Sound z plain) d (planOf k s d .stores) (g .0) n);
-  whole = λ counts. rw e (outside z (planOf k s d .state) _ plain (g .1) counts);
+pays-good z p-pos k s d plain e g = record {
+  cuts = rw (feed-not z k Cut plain refl) (g .0);
+  whole = λ counts. rw e (outside z p-pos (planOf k s d .state) _ plain (g .1) counts);
 }
 
 pub erase-pays : (z : Sizes) → Pays z eraseCall
@@ -99,7 +98,8 @@ unfolding refusal tests planOf feed
 erase-pays z s d plain fits i r =
     let run = running-passed s d [] (rw (append-nil (runningTests s d)) r) in
     let j = inside z s d plain i (run .0) in
-    pays-good z eraseCall s d plain refl (subst (λ (y : Sizes). Good z plain (eraseStep y s d) d) (sym (i .sizes-are)) (erase-good z (limits-of z fits .p-low) plain s d j))
+    let B = limits-of z fits in
+    pays-good z (B .p-low) eraseCall s d plain refl (subst (λ (y : Sizes). Good z plain (eraseStep y s d) d) (sym (i .sizes-are)) (erase-good z B plain s d j))
 
 -- ---- what a read gives
 

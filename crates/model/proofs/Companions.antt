@@ -13,12 +13,13 @@ use Rattle.model.specs.declared.Answer.the-variants.{Done, Idle, Refused
 use Rattle.model.specs.Tests.{Test, firstFailed}
 use Rattle.model.specs.Sizes.{Device, limits, lengths}
 use Rattle.model.specs.Stores.{applyAll}
-use Rattle.model.specs.Image.{wellFormed}
+use Rattle.model.specs.Ledger.{wellFormed}
 use Rattle.model.specs.State.{State}
 use Rattle.model.specs.Calls.{Call, formatCall, readCall, writeCall, eraseCall, drainCall, recoverCall, lentTests, runningTests, placeTests, tests, refusal, isDone, sizesOf, planOf, doneAnswer, turnedDown, call}
 use Rattle.model.specs.Promise.{whole, other, MayStand, lentOf}
 use Rattle.model.specs.Companions.{isDistrust, Trusted, Drained}
-use Rattle.model.proofs.Safe.{Inv}
+use Rattle.model.proofs.Frames.{lengths-test}
+use Rattle.model.proofs.Invariant.{Inv}
 use Rattle.model.proofs.Outcomes.{Ends, refused, cut, done, ends}
 use Rattle.model.proofs.Induction.{Each, recover-taken}
 
@@ -49,15 +50,16 @@ module _ (z : Sizes) (fits-limits : limits z ≡ true) where
       ls = rw (i .sizes-are) fits-limits
 
       ll : lengths (s .sizes) d ≡ true
-      ll = rw (i .sizes-are) (i .sound .chip .lens)
-
-      lf : wellFormed (s .sizes) d ≡ true
-      lf = rw (i .sizes-are) (i .sound .chip .formed)
+      ll = rw (i .sizes-are) (lengths-test z d (i .found .lens))
 
       go : (r : Bool) → s .running ≡ r
           → (firstFailed (runningTests s d ++ more) ≡ 3) ⊎ (firstFailed (runningTests s d ++ more) ≡ firstFailed more)
       go false e = inl (rw (ls, ll, e))
-      go true e = let f = i .live e .fits in inr (rw (ls, ll, lf, f, e))
+      go true e =
+          let v = i .live e in
+          let w : wellFormed (s .sizes) d ≡ true = rw (i .sizes-are) (v .formed) in
+          let f = v .fits in
+          inr (rw (ls, ll, w, f, e))
 
   -- the number that a call's own tests give
   own-trusted : (s : State) (d : Device) (plain : List ℕ) (more : List Test) → Inv z s d plain → all isOwnTest more ≡ true
@@ -77,7 +79,7 @@ module _ (z : Sizes) (fits-limits : limits z ≡ true) where
   refusal-trusted (writeCall b off bytes) s d plain m i = own-trusted s d plain _ i refl
   refusal-trusted eraseCall s d plain m i = own-trusted s d plain [] i refl
   refusal-trusted drainCall s d plain m i = own-trusted s d plain [] i refl
-  refusal-trusted (recoverCall y) s d plain m i = rw (m, recover-taken z fits-limits s d (i .sound .chip))
+  refusal-trusted (recoverCall y) s d plain m i = rw (m, recover-taken z fits-limits s d plain (i .found))
 
   done-trusted : (k : Call) (s : State) → isDistrust (doneAnswer k s) ≡ false
   unfolding isDistrust doneAnswer

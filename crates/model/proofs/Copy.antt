@@ -63,7 +63,7 @@ module _ (z : Sizes) (bounds : Limits z) (c b e k : ℕ) (bytes : List ℕ) (hc 
   unfolding bucketSize
   some-size = omega (arith, mul-le-mul (bounds .p-low) (bounds .s-low))
 
-  log : Log z c 0 k e b 0 bytes
+  pub log : Log z c 0 k e b 0 bytes
   log = record {
     bucket-in = hc;
     kind-low = kinds .0;

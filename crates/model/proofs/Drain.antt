@@ -20,11 +20,11 @@ use Rattle.model.specs.Image.{isDirty}
 use Rattle.model.specs.State.{State, moved, holds, cacheOf, isMarked, caches, recordOf, entry}
 use Rattle.model.specs.Steps.{merged}
 use Rattle.model.specs.Operations.{unclean, drainStores, isUnclean, isClean, drained, drain}
-use Rattle.model.specs.Tests.{}
 use Rattle.model.specs.Calls.{drainCall, tests, runningTests, refusal, planOf}
 use Rattle.model.specs.Promise.{feed}
 use Rattle.model.proofs.Views.{Lay, top, bare, SafeAt, copied, uncopied}
-use Rattle.model.proofs.Safe.{view, plainAt, Safe, Sound, Along, Inv, Pays}
+use Rattle.model.proofs.Safe.{view, plainAt, Safe, Sound, Along}
+use Rattle.model.proofs.Invariant.{Inv, Pays}
 use Rattle.model.proofs.Frames.{Lengths}
 use Rattle.model.proofs.Limits.{Limits, limits-of}
 use Rattle.model.proofs.Formed.{Formed}
@@ -33,10 +33,11 @@ use Rattle.model.proofs.Buckets.{holds-parts}
 use Rattle.model.proofs.BucketKinds.{back-below, complete-copy, copy-used, write-used}
 use Rattle.model.proofs.Show.{same-refl, isDirty-same}
 use Rattle.model.proofs.Units.{plain-bytes}
-use Rattle.model.proofs.UnitRuns.{MayWrite, Ran, units-run}
+use Rattle.model.proofs.UnitRuns.{MayWrite, Ran, runs-harmless, units-run}
 use Rattle.model.proofs.Queues.{Maps, absent, maps-times}
 use Rattle.model.proofs.QueuesErased.{gone, gone-disk}
 use Rattle.model.proofs.QueuesMerged.{length-merged, merged-plain}
+use Rattle.model.proofs.FindableRuns.{Each, Harmless, ledger-runs, along-cuts}
 use Rattle.model.proofs.Inside.{Inside, lens, in-chip, gc-below, swept-safe, read-same, who-gives, who-holds}
 use Rattle.model.proofs.InsideLive.{inside}
 use Rattle.model.proofs.Steps.{Good}
@@ -72,8 +73,13 @@ module _ (z : Sizes) (B : Limits z) (plain : List ℕ) (s : State) (d : Device) 
   unfolding drain drainStores flushes
   run = units-run z B plain (s .gc) (gc-below z plain s d j) (merged z s d) d flushes may-write d (same-refl z d) (j .chip) (j .ready)
 
+  harmless : Each (Harmless z d) (drain z s d .stores)
+  unfolding drain drainStores flushes
+  harmless = runs-harmless z B plain (s .gc) (gc-below z plain s d j) (merged z s d) d flushes may-write d
+
   stored : Inside z plain s after
-  stored = same-inside z (B .p-low) plain s d after j (run .1 .chip) (run .1 .ready) (run .1 .still)
+  stored = same-inside z (B .p-low) plain s d after j (run .1 .chip)
+      (ledger-runs z (B .p-low) (drain z s d .stores) d (s .next) (lens z plain s d j) harmless (j .ledger)) (run .1 .ready) (run .1 .still)
 
   unclean-below : (b : ℕ) → unclean z d s b ≡ true → b < z .b
   unfolding unclean
@@ -107,6 +113,7 @@ module _ (z : Sizes) (B : Limits z) (plain : List ℕ) (s : State) (d : Device) 
     sizes-are = j .sizes-are;
     plain-length = j .plain-length;
     chip = run .1 .chip;
+    ledger = stored .ledger;
     ready = ready-drained z d s (B .p-low) plain after stored flushed-disk;
     once = λ c. omega (arith, times-selected (unclean z d s) (s .reads) c, times-append c (s .gc) (drained z d s), times-drained z d s (B .p-low) plain after stored c) ∙ j .once c;
     reads = reads-selected (λ b. not (unclean z d s b)) z after (s .reads) (stored .reads);
@@ -122,7 +129,7 @@ module _ (z : Sizes) (B : Limits z) (plain : List ℕ) (s : State) (d : Device) 
   }
 
   pub drain-good : Good z plain (drain z s d) d
-  drain-good = (run .0, inside-drained)
+  drain-good = (along-cuts z (B .p-low) plain (drain z s d .stores) d (s .next) (j .next-high) harmless (j .ledger) (run .0), inside-drained)
 
   -- ---- the disk by itself
 
@@ -175,8 +182,9 @@ drain-passed s d r = running-passed s d [] (rw (append-nil (runningTests s d)) r
 pub drain-pays : (z : Sizes) → Pays z drainCall
 unfolding planOf feed
 drain-pays z s d plain fits i r =
-    pays-good z drainCall s d plain refl
-    (subst (λ (y : Sizes). Good z plain (drain y s d) d) (sym (i .sizes-are)) (drain-good z (limits-of z fits) plain s d (inside z s d plain i (drain-passed s d r))))
+    let B = limits-of z fits in
+    pays-good z (B .p-low) drainCall s d plain refl
+    (subst (λ (y : Sizes). Good z plain (drain y s d) d) (sym (i .sizes-are)) (drain-good z B plain s d (inside z s d plain i (drain-passed s d r))))
 
 -- after a Done drain the disk is the plain disk
 pub drain-settles : (z : Sizes) → limits z ≡ true → (s : State) (d : Device) (plain : List ℕ) → Inv z s d plain → refusal drainCall s d ≡ 0

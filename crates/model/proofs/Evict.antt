@@ -23,7 +23,7 @@ use Rattle.model.proofs.QueuesMerged.{length-merged, merged-plain}
 use Rattle.model.proofs.Inside.{Inside, gc-below, write-back}
 use Rattle.model.proofs.Steps.{Good, nothing-good, then-good}
 use Rattle.model.proofs.StepsDrop.{Stored, in-copy, on-disk, write-dropped}
-use Rattle.model.proofs.StepsUnits.{units-run, units-are, units-inside}
+use Rattle.model.proofs.StepsUnits.{units-cuts, units-are, units-inside}
 use Rattle.model.proofs.StepsProgram.{copy-good, copy-fresh}
 
 -- b's Write bucket has left
@@ -67,7 +67,7 @@ module _ (z : Sizes) (B : Limits z) (plain : List ℕ) (s : State) (d : Device) 
   with-disk n =
       let a : Allowed z B plain (s .gc) (gc-below z plain s d j) b hb (merged z s d b) len d = plain-bytes (λ i q. bytes-plain i) in
       leaves (writeOut z b (merged z s d b))
-      (units-run z B plain s d j b hb (merged z s d b) len a, units-inside z B plain s d j b hb (merged z s d b) len a) refl
+      (units-cuts z B plain s d j b hb (merged z s d b) len a, units-inside z B plain s d j b hb (merged z s d b) len a) refl
       (λ i. on-disk n (λ k. ap (λ (l : List ℕ). getD l k 0) (units-are z B plain s d j b hb (merged z s d b) len a .disk-is) ∙ bytes-plain k))
 
   pub evict-good : s .next < 4294967296 → Good z plain (evict z b s d) d

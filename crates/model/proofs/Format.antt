@@ -1,5 +1,5 @@
 -- A Done format starts the list: the invariant holds, with the disk's bytes as the plain disk.
-use Prim.Native.Nat.{ℕ, zero, suc, _≤_, _<_}
+use Prim.Native.Nat.{ℕ, _+_, _≤_, _<_}
 use mathlib.Core.Path.{_≡_, refl, sym, ap, _∙_}
 use mathlib.Core.Bool.{Bool, true, false, true≢false}
 use mathlib.Core.Option.{Option, none, some}
@@ -14,18 +14,22 @@ use Rattle.lists.proofs.Orders.{times-below}
 use Rattle.model.specs.declared.Sizes.{Sizes}
 use Rattle.model.specs.Sizes.{Device, limits, lengths, body}
 use Rattle.model.specs.Stores.{applyAll, tagOf, diskBytes}
-use Rattle.model.specs.Image.{pageFits, epochOf}
+use Rattle.model.specs.Spare.{blank}
+use Rattle.model.specs.Image.{epochOf}
 use Rattle.model.specs.State.{holds, isMarked, caches, backs, recordOf, entry}
 use Rattle.model.specs.Operations.{format}
 use Rattle.model.proofs.Views.{uncopied, bare}
-use Rattle.model.proofs.Safe.{givesOf, holdsOf, plainAt, Safe, Chip, Inv}
+use Rattle.model.proofs.Safe.{givesOf, holdsOf, plainAt, Safe, Chip}
+use Rattle.model.proofs.Invariant.{Inv}
 use Rattle.model.proofs.Tags.{blank-ff}
 use Rattle.model.proofs.Limits.{limits-of, on-chip}
 use Rattle.model.proofs.Frames.{Lengths, lengths-of}
-use Rattle.model.proofs.FormedKept.{chip-of}
+use Rattle.model.proofs.FormedKept.{chip-of, blank-fits}
 use Rattle.model.proofs.Buckets.{blank-unused, blank-epoch, blank-gives, blank-holds, gives-write, holds-parts}
 use Rattle.model.proofs.QueuesShown.{Reads, Writes}
 use Rattle.model.proofs.QueuesErased.{gone, Below, gone-lengths, gone-blank, gone-disk}
+use Rattle.model.proofs.LedgerKept.{Ledger}
+use Rattle.model.proofs.BlankLedger.{blank-ledger}
 use Rattle.model.proofs.Inside.{Inside}
 use Rattle.model.proofs.InsideLive.{outside}
 
@@ -41,11 +45,6 @@ no-writes z d = record {
   newest-logs = λ b c m. absurd (true≢false (sym (m .held)));
   priorities = refl;
 }
-
-blank-fits : (z : Sizes) (d : Device) (c k : ℕ) → tagOf z d c k ≡ ff 16 → pageFits z d c k ≡ true
-unfolding pageFits
-blank-fits z d c zero e = rw (e, blank-ff)
-blank-fits z d c (suc k) e = rw (e, blank-ff)
 
 module _ (z : Sizes) (fits : limits z ≡ true) (d : Device) (lent : lengths z d ≡ true) where
   p-pos : 1 ≤ z .p
@@ -78,7 +77,7 @@ module _ (z : Sizes) (fits : limits z ≡ true) (d : Device) (lent : lengths z d
   wiped-chip : Chip z (gone z d (below (z .c)))
   wiped-chip = chip-of z wiped (gone-lengths z (below (z .c)) all-below d L)
       (record {
-        pages-fit = λ c k hc hk. blank-fits z wiped c k (wiped-blank c (on-chip z c hc) k hk);
+        pages-fit = λ c k hc hk. blank-fits z p-pos wiped c k (ap blank (wiped-blank c (on-chip z c hc) k hk) ∙ blank-ff);
         epochs-differ = λ c e hc he u. absurd (true≢false (sym u ∙ blank-unused z wiped c p-pos (wiped-blank c (on-chip z c hc))));
       })
       (λ c hc. rw (wiped-epoch c hc) (omega arith))
@@ -96,12 +95,18 @@ module _ (z : Sizes) (fits : limits z ≡ true) (d : Device) (lent : lengths z d
       given c i none q = q
       given c i (some x) q = blank-gives z wiped c p-pos (wiped-blank c (on-chip z c (gives-write z wiped c b i x q .0))) b i
 
+  wiped-ledger : Ledger z (gone z d (below (z .c))) 1
+  wiped-ledger =
+      let B = limits-of z fits in
+      blank-ledger z p-pos wiped (wiped-blank (body z) (omega (arith, B .ledger-in))) (wiped-blank (body z + 1) (omega (arith, B .ledger-in))) 1 (omega arith)
+
   formatted-inside : Inside z (d .disk) (format z .state) (gone z d (below (z .c)))
   unfolding format caches times isMarked recordOf entry
   formatted-inside = record {
     sizes-are = refl;
     plain-length = L .disk-is;
     chip = wiped-chip;
+    ledger = wiped-ledger;
     ready = wiped-safe;
     once = λ c. omega (arith, times-below c (body z));
     reads = no-reads z wiped;
@@ -118,4 +123,4 @@ module _ (z : Sizes) (fits : limits z ≡ true) (d : Device) (lent : lengths z d
 
   pub formatted-inv : Inv z (format z .state) (applyAll z d (format z .stores)) (d .disk)
   unfolding format all
-  formatted-inv = outside z (format z .state) wiped (d .disk) formatted-inside refl
+  formatted-inv = outside z p-pos (format z .state) wiped (d .disk) formatted-inside refl

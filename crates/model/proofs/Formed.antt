@@ -15,8 +15,8 @@ use Rattle.model.specs.declared.Sizes.{Sizes}
 use Rattle.model.specs.Sizes.{Device, body}
 use Rattle.model.specs.Stores.{tagOf}
 use Rattle.model.specs.Spare.{blank, kind, ordinal, pages, epoch, back, extent}
-use Rattle.model.specs.Image.{fieldsFit, pageFits, bucketFits, used, epochOf, wellFormed, pageBlank, blanks, endsLog, headTag}
-use Rattle.model.specs.State.{topEpoch}
+use Rattle.model.specs.Image.{fieldsFit, pageFits, bucketFits, used, epochOf, bodyFits, pageBlank, blanks, endsLog, headTag}
+use Rattle.model.specs.State.{entryEpoch, topEpoch}
 use Rattle.model.proofs.Limits.{pages-hold}
 use Rattle.model.proofs.Tags.{blank-true}
 use Rattle.model.proofs.Rules.{Fields, fields-of, Follows, follows-of, Goes, begins, goes-on}
@@ -29,15 +29,15 @@ pub record Formed (z : Sizes) (d : Device) : Type 0 where
   pub epochs-differ : (c e : ℕ) → c < body z → e < body z → used z d c ≡ true → used z d e ≡ true → epochOf z d c ≡ epochOf z d e → c ≡ e
 
 module _ (z : Sizes) (d : Device) where
-  pub formed-of : wellFormed z d ≡ true → Formed z d
-  unfolding wellFormed bucketFits
+  pub formed-of : bodyFits z d ≡ true → Formed z d
+  unfolding bodyFits bucketFits
   formed-of h = record {
     pages-fit = λ c k hc hk. all-below (z .p) (pageFits z d c) (all-below (body z) (bucketFits z d) (and-left (allBelow (body z) (bucketFits z d)) _ h) c hc) k hk;
     epochs-differ = distinct-differ (used z d) (epochOf z d) (body z) (and-right (allBelow (body z) (bucketFits z d)) _ h);
   }
 
-  pub formed-test : Formed z d → wellFormed z d ≡ true
-  unfolding wellFormed bucketFits
+  pub formed-test : Formed z d → bodyFits z d ≡ true
+  unfolding bodyFits bucketFits
   formed-test f =
       and-true (below-all (body z) (bucketFits z d) (λ c hc. below-all (z .p) (pageFits z d c) (λ k hk. f .pages-fit c k hc hk)))
       (differ-distinct (used z d) (epochOf z d) (body z) (f .epochs-differ))
@@ -46,11 +46,15 @@ module _ (z : Sizes) (d : Device) where
 
   pub epoch-top : (c : ℕ) → c < body z → epochOf z d c ≤ topEpoch z d
   unfolding topEpoch
-  epoch-top c hc = max-below (body z) (epochOf z d) c hc
+  epoch-top c hc = omega (arith, max-below (body z) (epochOf z d) c hc)
 
-  pub top-least : (m : ℕ) → ((c : ℕ) → c < body z → epochOf z d c ≤ m) → topEpoch z d ≤ m
+  pub entry-top : (i : ℕ) → i < 2 * z .p → entryEpoch z d i ≤ topEpoch z d
   unfolding topEpoch
-  top-least m h = max-least (body z) (epochOf z d) m h
+  entry-top i hi = omega (arith, max-below (2 * z .p) (entryEpoch z d) i hi)
+
+  pub top-least : (m : ℕ) → ((c : ℕ) → c < body z → epochOf z d c ≤ m) → ((i : ℕ) → i < 2 * z .p → entryEpoch z d i ≤ m) → topEpoch z d ≤ m
+  unfolding topEpoch
+  top-least m h k = omega (arith, max-least (body z) (epochOf z d) m h, max-least (2 * z .p) (entryEpoch z d) m k)
 
   -- ---- the pages of one bucket
 
@@ -123,7 +127,7 @@ module _ (z : Sizes) (d : Device) where
       where
         go : Goes (tagOf z d c k) (tagOf z d c (suc k)) → ordinal (tagOf z d c k) ≤ k → ordinal (tagOf z d c (suc k)) ≤ suc k
         go (begins o w) r = omega arith
-        go (goes-on o n f l) r = omega arith
+        go (goes-on o u n f l) r = omega arith
 
     pub ends-used : (k : ℕ) → endsLog z d c k ≡ true → blank (tagOf z d c k) ≡ false
     unfolding endsLog

@@ -18,7 +18,7 @@ use Rattle.model.proofs.Safe.{Chip}
 use Rattle.model.proofs.Tags.{blank-ff, kind-programmed}
 use Rattle.model.proofs.Frames.{Lengths, lengths-of, lengths-test, Fits, lengths-kept, tag-programmed, tag-other-page, tag-erased}
 use Rattle.model.proofs.Rules.{Fields, fields-test, Follows, follows-test}
-use Rattle.model.proofs.Formed.{Formed, formed-of, formed-test, epoch-top, top-least, blank-after, epoch-used, epoch-unused}
+use Rattle.model.proofs.Formed.{Formed, formed-of, formed-test, blank-after, epoch-used, epoch-unused}
 use Rattle.model.proofs.Show.{used-by, epoch-by, Same, used-same, epochOf-same, pageFits-same, same-program, same-erase, same-unit}
 use Rattle.model.proofs.Heads.{head-blank, head-first, head-later}
 
@@ -32,13 +32,13 @@ module _ (z : Sizes) where
   chip-formed {d} h = formed-of z d (h .formed)
 
   pub chip-epoch : {d : Device} → Chip z d → (c : ℕ) → c < body z → epochOf z d c < 4294967296
-  chip-epoch {d} h c hc = omega (arith, epoch-top z d c hc, h .epochs)
+  chip-epoch {d} h c hc = h .epochs c hc
 
   pub chip-of : (d : Device) → Lengths z d → Formed z d → ((c : ℕ) → c < body z → epochOf z d c < 4294967296) → Chip z d
   chip-of d lens formed low = record {
     lens = lengths-test z d lens;
     formed = formed-test z d formed;
-    epochs = let top = top-least z d 4294967295 (λ c hc. let q = low c hc in omega arith) in omega arith;
+    epochs = low;
   }
 
   -- ---- a change of one bucket
@@ -90,7 +90,7 @@ module _ (z : Sizes) where
 
     -- ---- erase a bucket, write a disk unit
 
-    blank-fits : (d : Device) (c k : ℕ) → blank (tagOf z d c k) ≡ true → pageFits z d c k ≡ true
+    pub blank-fits : (d : Device) (c k : ℕ) → blank (tagOf z d c k) ≡ true → pageFits z d c k ≡ true
     unfolding pageFits
     blank-fits d c zero h = or-left (blank (tagOf z d c 0)) (fieldsFit z (tagOf z d c 0) && eqb (ordinal (tagOf z d c 0)) 0) h
     blank-fits d c (suc k) h = or-left (blank (tagOf z d c (suc k))) (fieldsFit z (tagOf z d c (suc k)) && follows (tagOf z d c k) (tagOf z d c (suc k))) h

@@ -1,21 +1,24 @@
 -- The induction over the list: from what each call owes to what holds of the list.
 use Prim.Native.Nat.{ℕ, _<_}
 use mathlib.Core.Path.{_≡_, refl, sym, ap, _∙_}
-use mathlib.Core.Bool.{true, false, true≢false}
+use mathlib.Core.Bool.{Bool, true, false, true≢false}
 use mathlib.Core.List.{List, [], _∷_}
-use lib.ListN.{length}
+use lib.ListN.{length, drop}
 use lib.Dec.{eqb}
-use Rattle.lists.specs.Lists.{all, part}
+use Rattle.lists.specs.Lists.{if_then_else_, all, empty, part}
 use Rattle.model.specs.declared.Sizes.{Sizes}
-use Rattle.model.specs.declared.Answer.the-variants.{Done, Cut, Refused}
+use Rattle.model.specs.declared.Answer.the-variants.{Done, Idle, Cut, Refused}
 use Rattle.model.specs.Tests.{firstFailed}
 use Rattle.model.specs.Sizes.{Device, limits, lengths}
 use Rattle.model.specs.Stores.{applyAll}
 use Rattle.model.specs.State.{State, stopped, countAgrees}
 use Rattle.model.specs.Operations.{format}
-use Rattle.model.specs.Calls.{Call, formatCall, readCall, writeCall, eraseCall, drainCall, recoverCall, Outcome, lentTests, runningTests, tests, refusal, isDone, sizesOf, planOf, doneAnswer, readBuffer, turnedDown, call}
-use Rattle.model.specs.Promise.{Lent, whole, other, Item, MayStand, MayBeLent, lentOf, leftOf, diskPlace, feed, isRefused, Kept, PartKept, Claim, Throughout, Promised}
-use Rattle.model.proofs.Safe.{Chip, Inv, Pays}
+use Rattle.model.specs.Calls.{Call, formatCall, readCall, writeCall, eraseCall, drainCall, recoverCall, Outcome, lentTests, runningTests, tests, refusal, isDone, isCut, sizesOf, planOf, doneAnswer, readBuffer, turnedDown, call}
+use Rattle.model.specs.Promise.{Lent, whole, other, Tear, Item, MayStand, MayBeLent, lentOf, leftOf, torn, afterCall, diskPlace, feed, isRefused, Kept, PartKept, Claim, Throughout, Promised}
+use Rattle.model.proofs.Frames.{lengths-test}
+use Rattle.model.proofs.Prefix.{cuts-at}
+use Rattle.model.proofs.Findable.{Findable, accepted-test}
+use Rattle.model.proofs.Invariant.{Inv, Pays}
 use Rattle.model.proofs.Calling.{first-passed, feed-not}
 use Rattle.model.proofs.Outcomes.{cutShort, carriedOut, Ends, refused, cut, done, ends}
 
@@ -41,6 +44,20 @@ module _ (z : Sizes) where
   sizes-of drainCall s m e = e
   sizes-of (recoverCall y) s m e = m
 
+-- a call that is carried out is not Cut
+done-uncut : (k : Call) (s : State) → isCut (doneAnswer k s) ≡ false
+unfolding isCut doneAnswer
+done-uncut (formatCall y) s = refl
+done-uncut (readCall b off buffer) s = refl
+done-uncut (writeCall b off bytes) s = refl
+done-uncut eraseCall s = go (empty (s .gc))
+  where
+    go : (q : Bool) → isCut (if q then Idle else Done) ≡ false
+    go true = refl
+    go false = refl
+done-uncut drainCall s = refl
+done-uncut (recoverCall y) s = refl
+
 -- ---- refusals
 
 -- a call's tests are those of sizes and buffers, and then its own
@@ -59,9 +76,9 @@ Each z claim = (n : ℕ) (k : Call) → MayStand z k → (s : State) (d : Device
     → claim z plain k l (call n k s (lentOf l d))
 
 module _ (z : Sizes) (fits-limits : limits z ≡ true) where
-  pub recover-taken : (s : State) (d : Device) → Chip z d → refusal (recoverCall z) s d ≡ 0
+  pub recover-taken : (s : State) (d : Device) (plain : List ℕ) → Findable z plain d → refusal (recoverCall z) s d ≡ 0
   unfolding refusal tests lentTests firstFailed
-  recover-taken s d c = rw (fits-limits, c .lens, c .formed)
+  recover-taken s d plain f = rw (fits-limits, lengths-test z d (f .lens), accepted-test z d (f .accepted))
 
   -- ---- one call
 
@@ -75,18 +92,18 @@ module _ (z : Sizes) (fits-limits : limits z ≡ true) where
   kept-cut plain (recoverCall y) o e = rw e
 
   -- a recover is not turned down
-  kept-refused : (plain : List ℕ) (k : Call) (s : State) (d : Device) (o : Outcome) → MayStand z k → Chip z d → eqb (refusal k s d) 0 ≡ false
+  kept-refused : (plain : List ℕ) (k : Call) (s : State) (d : Device) (o : Outcome) → MayStand z k → Findable z plain d → eqb (refusal k s d) 0 ≡ false
       → o .answer ≡ Refused (refusal k s d) → Kept z plain k whole o
   unfolding MayStand Kept isDone isRefused
-  kept-refused plain (formatCall y) s d o m c h e = tt
-  kept-refused plain (readCall b off buffer) s d o m c h e = λ q. absurd (true≢false (sym q ∙ rw e))
-  kept-refused plain (writeCall b off bytes) s d o m c h e = tt
-  kept-refused plain eraseCall s d o m c h e = tt
-  kept-refused plain drainCall s d o m c h e = tt
-  kept-refused plain (recoverCall y) s d o m c h e = absurd (true≢false (sym taken ∙ h))
+  kept-refused plain (formatCall y) s d o m f h e = tt
+  kept-refused plain (readCall b off buffer) s d o m f h e = λ q. absurd (true≢false (sym q ∙ rw e))
+  kept-refused plain (writeCall b off bytes) s d o m f h e = tt
+  kept-refused plain eraseCall s d o m f h e = tt
+  kept-refused plain drainCall s d o m f h e = tt
+  kept-refused plain (recoverCall y) s d o m f h e = absurd (true≢false (sym taken ∙ h))
     where
       taken : eqb (refusal (recoverCall y) s d) 0 ≡ true
-      taken = rw (m, recover-taken s d c)
+      taken = rw (m, recover-taken s d plain f)
 
   kept-part : (plain : List ℕ) (k : Call) (part : Device) (o : Outcome) → o .answer ≡ Refused 2 → Kept z plain k (other part) o
   unfolding Kept isDone
@@ -116,25 +133,29 @@ module _ (z : Sizes) (fits-limits : limits z ≡ true) where
     kept-done plain (recoverCall y) s d o i r e f = rw e
 
     module _ (n : ℕ) (k : Call) (may : MayStand z k) (s : State) (d : Device) (plain : List ℕ) (i : Inv z s d plain) where
+      -- chip and disk before the next call: a cut call's next store may be half done
+      abbrev left : (lent : Device) → Tear → Outcome → Device
+      left e t o = if isCut (o .answer) then torn z t (o .device) (drop (o .stores) (planOf k s e .stores)) else o .device
+
       record After (o : Outcome) : Type 0 where
         kept : Kept z plain k whole o
-        inv : Inv z (o .state) (o .device) (feed z k (o .answer) plain)
+        inv : (t : Tear) → Inv z (o .state) (left d t o) (feed z k (o .answer) plain)
 
       after-refused : eqb (refusal k s d) 0 ≡ false → After (turnedDown (refusal k s d) k s d)
-      unfolding turnedDown isDone
+      unfolding turnedDown isDone isCut
       after-refused e = record {
-        kept = kept-refused plain k s d _ may (i .sound .chip) e refl;
-        inv = rw (feed-not z k (Refused (refusal k s d)) plain refl) i;
+        kept = kept-refused plain k s d _ may (i .found) e refl;
+        inv = λ t. rw (feed-not z k (Refused (refusal k s d)) plain refl) i;
       }
 
       after-cut : refusal k s d ≡ 0 → n < length (planOf k s d .stores) → After (cutShort n k s d)
-      unfolding stopped isDone
+      unfolding stopped isDone isCut
       after-cut r h = record {
         kept = kept-cut plain k _ refl;
-        inv = rw (sizes-of z k s may (i .sizes-are)) (record {
+        inv = λ t. rw (sizes-of z k s may (i .sizes-are)) (record {
           sizes-are = i .sizes-are;
           plain-length = rw (feed-not z k Cut plain refl) (i .plain-length);
-          sound = owing .pays k may s d plain fits-limits i r .cuts n h;
+          found = cuts-at z (Findable z (feed z k Cut plain)) d (planOf k s d .stores) (owing .pays k may s d plain fits-limits i r .cuts) n h t;
           live = λ q. absurd (true≢false (sym q));
         });
       }
@@ -142,7 +163,7 @@ module _ (z : Sizes) (fits-limits : limits z ≡ true) where
       after-done : refusal k s d ≡ 0 → After (carriedOut n k s d)
       after-done r = record {
         kept = kept-done plain k s d _ i r refl refl;
-        inv = rw (feed-done z k s plain, sizes-of z k s may (i .sizes-are)) (owing .pays k may s d plain fits-limits i r .whole (owing .counts k s d (sizes-of z k s may (i .sizes-are)) r));
+        inv = λ t. rw (done-uncut k s, feed-done z k s plain, sizes-of z k s may (i .sizes-are)) (owing .pays k may s d plain fits-limits i r .whole (owing .counts k s d (sizes-of z k s may (i .sizes-are)) r));
       }
 
       after-call : After (call n k s d)
@@ -159,26 +180,30 @@ module _ (z : Sizes) (fits-limits : limits z ≡ true) where
       part-call part h = rw (lent-first k s part (rw (sizes-of z k s may (i .sizes-are)) fits-limits) (rw (sizes-of z k s may (i .sizes-are)) h))
 
       -- any call of the list
-      pub called : (l : Lent) → MayBeLent z l
-          → let o = call n k s (lentOf l d) in
-          Kept z plain k l o × PartKept l o × Inv z (o .state) (leftOf l d o) (feed z k (o .answer) plain)
-      unfolding MayBeLent lentOf leftOf PartKept turnedDown isDone
-      called whole h = (after-call .kept, tt, after-call .inv)
-      called (other part) h =
-          rw (part-call part h) (kept-part plain k part (turnedDown 2 k s part) refl, (refl, refl), rw (feed-not z k (Refused 2) plain refl) i)
+      pub kept-called : (l : Lent) → MayBeLent z l → let o = call n k s (lentOf l d) in Kept z plain k l o × PartKept l o
+      unfolding MayBeLent lentOf PartKept turnedDown
+      kept-called whole h = (after-call .kept, tt)
+      kept-called (other part) h = rw (part-call part h) (kept-part plain k part (turnedDown 2 k s part) refl, (refl, refl))
+
+      pub called : (l : Lent) → MayBeLent z l → (t : Tear)
+          → let o = call n k s (lentOf l d) in Inv z (o .state) (leftOf l d (left (lentOf l d) t o)) (feed z k (o .answer) plain)
+      unfolding MayBeLent lentOf leftOf turnedDown isDone
+      called whole h t = after-call .inv t
+      called (other part) h t = rw (part-call part h, feed-not z k (Refused 2) plain refl) i
 
     pub promised : Each z Promised
     unfolding Promised
-    promised n k may s d plain i l lent = let c = called n k may s d plain i l lent in (c .0, c .1)
+    promised n k may s d plain i l lent = kept-called n k may s d plain i l lent
 
     -- a claim about each call is one about the list
     pub throughout : (claim : Claim) → Each z claim → (xs : List Item) (s : State) (d : Device) (plain : List ℕ) → Inv z s d plain
         → Throughout (λ (s : State). s) (λ (s : State) (o : Outcome). o .state) claim z xs s d plain
-    unfolding Throughout
+    unfolding Throughout afterCall
     throughout claim each [] s d plain i = tt
-    throughout claim each (x ∷ xs) s d plain i = λ may lent.
-        let c = called (x .allowance) (x .request) may s d plain i (x .lent) lent in
-        (each (x .allowance) (x .request) may s d plain i (x .lent) lent, throughout claim each xs _ _ _ (c .2))
+    throughout claim each (x ∷ xs) s d plain i = λ may lent. (
+      each (x .allowance) (x .request) may s d plain i (x .lent) lent,
+      throughout claim each xs _ _ _ (called (x .allowance) (x .request) may s d plain i (x .lent) lent (x .tear)),
+    )
 
 -- ---- the start
 

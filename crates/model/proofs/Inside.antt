@@ -28,6 +28,7 @@ use Rattle.model.proofs.Queues.{Maps, times-maps, maps-times}
 use Rattle.model.proofs.QueuesShown.{Reads, Writes}
 use Rattle.model.proofs.QueuesErased.{gone, Below, gone-lengths, gone-same, gone-blank}
 use Rattle.model.proofs.Heads.{Blank}
+use Rattle.model.proofs.LedgerKept.{Ledger}
 
 -- how often the cache bucket c stands in the queues
 abbrev pub places : State → ℕ → ℕ
@@ -44,6 +45,7 @@ module _ (z : Sizes) where
     pub sizes-are : s .sizes ≡ z
     pub plain-length : length plain ≡ z .b * bucketSize z
     pub chip : Chip z d
+    pub ledger : Ledger z d (s .next)
     pub ready : Ready z plain (s .gc) d
     pub once : (c : ℕ) → places s c ≡ (if ltb c (body z) then 1 else 0)
     pub reads : Reads z d (s .reads)

@@ -1,5 +1,5 @@
 -- Between calls and inside a call: a running state that is Live is Inside, and one that is Inside is Live.
-use Prim.Native.Nat.{ℕ, _-_, _*_, _≤_, _<_}
+use Prim.Native.Nat.{ℕ, _*_, _≤_, _<_}
 use mathlib.Core.Path.{_≡_, refl, sym, ap, _∙_, subst}
 use mathlib.Core.Bool.{Bool, true, _&&_}
 use mathlib.Core.Option.{none}
@@ -19,16 +19,20 @@ use Rattle.model.specs.Sizes.{Device, bucketSize, body}
 use Rattle.model.specs.Stores.{tagOf}
 use Rattle.model.specs.Spare.{blank}
 use Rattle.model.specs.Image.{backOf, isWrite, complete, pageBlank, blanks}
+use Rattle.model.specs.Ledger.{entryFits, entriesFit, wellFormed}
 use Rattle.model.specs.State.{State, cacheOf, backs, queued, isBelow, onceIn, eachOnce, readAgrees, countAgrees, writeAgrees, allBlank, topEpoch, stateFits}
-use Rattle.model.proofs.Safe.{holdsOf, Chip, Live, Inv}
+use Rattle.model.proofs.Safe.{holdsOf}
+use Rattle.model.proofs.Invariant.{Live, Inv}
+use Rattle.model.proofs.LedgerKept.{Ledger}
 use Rattle.model.proofs.Tags.{blank-ff, blank-true}
-use Rattle.model.proofs.Formed.{epoch-top, top-least}
+use Rattle.model.proofs.Formed.{epoch-top, entry-top}
 use Rattle.model.proofs.Buckets.{holds-parts, holds-from}
 use Rattle.model.proofs.Queues.{Maps, maps-times}
 use Rattle.model.proofs.QueuesGrown.{maps-all, all-maps}
 use Rattle.model.proofs.Marks.{marks-test}
 use Rattle.model.proofs.QueuesShown.{priorityFits, Reads, Writes}
-use Rattle.model.proofs.Inside.{places, places-queued, Inside, sound, in-chip, a-place}
+use Rattle.model.proofs.Inside.{places, places-queued, Inside, in-chip, a-place}
+use Rattle.model.proofs.InsideFound.{top-below, inside-found}
 
 all-true : (l : List Entry) → all (λ e. true) l ≡ true
 unfolding all
@@ -62,7 +66,7 @@ pub placed : (n : ℕ) (s : State) → eachOnce n (queued s) ≡ true → (c : �
 unfolding eachOnce isBelow
 placed n s h c t = ltb-true c n (all-in (isBelow n) (queued s) (every-at _ h 1) c (omega (arith, places-queued s c)))
 
-module _ (s : State) (d : Device) (plain : List ℕ) (chip : Chip (s .sizes) d) (live : Live (s .sizes) s d plain) where
+module _ (s : State) (d : Device) (plain : List ℕ) (live : Live (s .sizes) s d plain) where
   abbrev z : Sizes
   z = s .sizes
 
@@ -93,12 +97,24 @@ module _ (s : State) (d : Device) (plain : List ℕ) (chip : Chip (s .sizes) d) 
       log : (b c : ℕ) → (e : Entry) × (e .back ≡ b) × (e .cache ≡ c) × (writeAgrees z d e ≡ true) → (isWrite z d c ≡ true) × (backOf z d c ≡ b)
       log b c t = rw (← t .1, ← t .2) (every-at _ (t .3) 0, eqb-true _ _ (every-at _ (t .3) 1))
 
+  ledger-of : Ledger (s .sizes) d (s .next)
+  unfolding wellFormed entriesFit stateFits
+  ledger-of = record {
+    entries = all-below (2 * z .p) (entryFits z d) (every-at _ (live .formed) 1);
+    lower-packed = every-at _ (live .formed) 2;
+    upper-packed = every-at _ (live .formed) 3;
+    one = every-at _ (live .fits) 13;
+    below-next = λ i hi. omega (arith, entry-top z d i hi, ltb-true (topEpoch z d) (s .next) (every-at _ (live .fits) 10));
+    apart = live .apart;
+  }
+
   inside-of : length plain ≡ s .sizes .b * bucketSize (s .sizes) → Inside (s .sizes) plain s d
   unfolding stateFits
   inside-of pl = record {
     sizes-are = refl;
     plain-length = pl;
-    chip = chip;
+    chip = live .chip;
+    ledger = ledger-of;
     ready = live .ready;
     once = once-of (body z) s (every-at _ (live .fits) 0);
     reads = reads-of (every-at _ (live .fits) 0) (every-at _ (live .fits) 3) (every-at _ (live .fits) 5);
@@ -115,12 +131,12 @@ module _ (s : State) (d : Device) (plain : List ℕ) (chip : Chip (s .sizes) d) 
 
 pub inside : (z : Sizes) (s : State) (d : Device) (plain : List ℕ) → Inv z s d plain → s .running ≡ true → Inside z plain s d
 inside z s d plain i run =
-    subst (λ (y : Sizes). Chip y d → Live y s d plain → length plain ≡ y .b * bucketSize y → Inside y plain s d) (i .sizes-are)
-    (λ c l pl. inside-of s d plain c l pl) (i .sound .chip) (i .live run) (i .plain-length)
+    subst (λ (y : Sizes). Live y s d plain → length plain ≡ y .b * bucketSize y → Inside y plain s d) (i .sizes-are)
+    (λ l pl. inside-of s d plain l pl) (i .live run) (i .plain-length)
 
 -- ---- out of a call
 
-module _ (s : State) (d : Device) (plain : List ℕ) (j : Inside (s .sizes) plain s d) (counts : all (countAgrees (s .sizes) d) (s .writes) ≡ true) where
+module _ (s : State) (p-pos : 1 ≤ s .sizes .p) (d : Device) (plain : List ℕ) (j : Inside (s .sizes) plain s d) (counts : all (countAgrees (s .sizes) d) (s .writes) ≡ true) where
   once-test : eachOnce (body (s .sizes)) (queued s) ≡ true
   unfolding eachOnce isBelow onceIn
   once-test =
@@ -147,6 +163,13 @@ module _ (s : State) (d : Device) (plain : List ℕ) (j : Inside (s .sizes) plai
   unfolding allBlank blanks pageBlank
   free-test = in-all (allBlank (s .sizes) d) (s .free) (λ c t. eq-eqb _ _ (count-all (s .sizes .p) (pageBlank (s .sizes) d c) (λ k hk. ap blank (j .free-blank c t k hk) ∙ blank-ff)))
 
+  formed-of : wellFormed (s .sizes) d ≡ true
+  unfolding wellFormed entriesFit
+  formed-of =
+      every-more _ _ (j .chip .formed)
+      (every-more _ _ (below-all (2 * s .sizes .p) (entryFits (s .sizes) d) (j .ledger .entries))
+      (every-more _ _ (j .ledger .lower-packed) (every-more _ _ (j .ledger .upper-packed) every-none)))
+
   fits-of : stateFits s d ≡ true
   unfolding stateFits
   fits-of =
@@ -160,21 +183,25 @@ module _ (s : State) (d : Device) (plain : List ℕ) (j : Inside (s .sizes) plai
       (every-more _ _ free-test
       (every-more _ _ (le-leb _ _ (j .accepted-low))
       (every-more _ _ (le-leb _ _ (j .next-low))
-      (every-more _ _ (lt-ltb (topEpoch (s .sizes) d) (s .next) (omega (arith, j .next-low, top-least (s .sizes) d (s .next - 1) (λ c hc. omega (arith, j .next-above c hc)))))
+      (every-more _ _ (lt-ltb (topEpoch (s .sizes) d) (s .next) (omega (arith, j .next-low, top-below (s .sizes) p-pos plain s d j)))
       (every-more _ _ (le-leb _ _ (j .next-high))
-      (every-more _ _ (marks-test (s .sizes) plain d (s .reads) (s .writes) (j .writes .write-once) (j .marks)) every-none))))))))))))
+      (every-more _ _ (marks-test (s .sizes) plain d (s .reads) (s .writes) (j .writes .write-once) (j .marks))
+      (every-more _ _ (j .ledger .one) every-none)))))))))))))
 
   live-of : Live (s .sizes) s d plain
   live-of = record {
+    formed = formed-of;
     fits = fits-of;
+    chip = j .chip;
+    apart = j .ledger .apart;
     ready = j .ready;
     newest-reads = λ b h x q. j .reads .newest-copy b (cacheOf b (s .reads)) (record { held = h; is = refl }) x q;
     marks = j .marks;
     newest-writes = λ b h x i ne. j .writes .newest-logs b (cacheOf b (s .writes)) (record { held = h; is = refl }) x i ne;
   }
 
-pub live : (z : Sizes) (s : State) (d : Device) (plain : List ℕ) → Inside z plain s d → all (countAgrees z d) (s .writes) ≡ true → Live z s d plain
-live z s d plain j = subst (λ (y : Sizes). Inside y plain s d → all (countAgrees y d) (s .writes) ≡ true → Live y s d plain) (j .sizes-are) (λ i counts. live-of s d plain i counts) j
+pub live : (z : Sizes) → 1 ≤ z .p → (s : State) (d : Device) (plain : List ℕ) → Inside z plain s d → all (countAgrees z d) (s .writes) ≡ true → Live z s d plain
+live z p-pos s d plain j = subst (λ (y : Sizes). 1 ≤ y .p → Inside y plain s d → all (countAgrees y d) (s .writes) ≡ true → Live y s d plain) (j .sizes-are) (λ hp i counts. live-of s hp d plain i counts) p-pos j
 
-pub outside : (z : Sizes) (s : State) (d : Device) (plain : List ℕ) → Inside z plain s d → all (countAgrees z d) (s .writes) ≡ true → Inv z s d plain
-outside z s d plain j counts = record { sizes-are = j .sizes-are; plain-length = j .plain-length; sound = sound z plain s d j; live = λ run. live z s d plain j counts }
+pub outside : (z : Sizes) → 1 ≤ z .p → (s : State) (d : Device) (plain : List ℕ) → Inside z plain s d → all (countAgrees z d) (s .writes) ≡ true → Inv z s d plain
+outside z p-pos s d plain j counts = record { sizes-are = j .sizes-are; plain-length = j .plain-length; found = inside-found z p-pos plain s d j; live = λ run. live z p-pos s d plain j counts }

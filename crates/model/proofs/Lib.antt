@@ -17,7 +17,16 @@ pub mod Prefix
 pub mod Buckets
 pub mod QueuesShown
 pub mod QueuesErased
+pub mod LedgerKept
+pub mod Findable
+pub mod LedgerErase
+pub mod BlankLedger
+pub mod BodyAlike
+pub mod LedgerEntry
+pub mod FindableRuns
+pub mod Invariant
 pub mod Inside
+pub mod InsideFound
 pub mod Rules
 pub mod Formed
 pub mod Retire
@@ -46,6 +55,7 @@ pub mod StepsJoin
 pub mod StepsCopy
 pub mod StepsDrop
 pub mod UnitRuns
+pub mod RecoverSwept
 pub mod Recover
 pub mod StepsUnits
 pub mod StepsProgram
@@ -53,6 +63,7 @@ pub mod DrainQueues
 pub mod DrainErase
 pub mod Drain
 pub mod Theorem
+pub mod Untorn
 pub mod Read
 pub mod Evict
 pub mod WriteAccept
@@ -60,8 +71,10 @@ pub mod WriteLog
 pub mod Write
 pub mod Tested
 pub mod StoresMade
+pub mod Reached
 pub mod Programs
 pub mod KeptCounts
+pub mod ProgramsLedger
 pub mod ProgramsPool
 pub mod ProgramsRise
 pub mod Counts

@@ -24,7 +24,7 @@ pub record Limits (z : Sizes) : Type 0 where
   pub w-low : 1 ≤ z .w
   pub w-high : z .w ≤ 64
   pub room : z .r + z .w + 1 ≤ body z
-  pub body-high : body z ≤ z .c
+  pub ledger-in : body z + 2 ≡ z .c
   pub size-high : bucketSize z ≤ 65536
 
 module _ (z : Sizes) where
@@ -34,6 +34,7 @@ module _ (z : Sizes) where
       let t = every-at _ h in
       let s-high : z .s ≤ 1024 = within-high 4 1024 (z .s) (t 0) in
       let p-high : z .p ≤ 64 = within-high 1 64 (z .p) (t 1) in
+      let fits : z .r + z .w + 3 ≤ z .c = leb-true (z .r + z .w + 3) (z .c) (t 6) in
       record {
         s-low = within-low 4 1024 (z .s) (t 0);
         s-high = s-high;
@@ -47,15 +48,15 @@ module _ (z : Sizes) where
         r-high = within-high 1 64 (z .r) (t 4);
         w-low = within-low 1 64 (z .w) (t 5);
         w-high = within-high 1 64 (z .w) (t 5);
-        room = leb-true (z .r + z .w + 1) (z .c) (t 6);
-        body-high = omega arith;
+        room = omega (arith, fits);
+        ledger-in = omega (arith, fits);
         size-high = mul-le-mul p-high s-high;
       }
 
   -- the buckets that stand in queues are on the chip
   pub on-chip : (c : ℕ) → c < body z → c < z .c
   unfolding body
-  on-chip c h = h
+  on-chip c h = omega arith
 
   -- ---- a log's pages
 

@@ -7,6 +7,7 @@ use mathlib.Core.List.{List, [], _∷_, _++_, append-assoc}
 use native.Mathlib.Omega.{arith}
 use lib.ListN.{length, take, length-append}
 use lib.Seq.{take-append-le}
+use lib.Dec.{leb}
 use borrow.Author.Tests.{eq-eqb, lt-ltb, le-ltb}
 use Rattle.lists.specs.Lists.{head, empty, row, all}
 use Rattle.lists.proofs.Tests.{true-or-false}
@@ -16,10 +17,11 @@ use Rattle.model.specs.declared.Victim.{Victim}
 use Rattle.model.specs.declared.Victim.the-variants.{Nobody, Bucket}
 use Rattle.model.specs.Sizes.{Device, pagesFor}
 use Rattle.model.specs.Stores.{Store, program, erase, unit, applyAll, unitStores}
-use Rattle.model.specs.Spare.{writeKind, dirtyKind, kind, tagBytes}
+use Rattle.model.specs.Spare.{writeKind, dirtyKind, kind, tagBytes, entryTag}
 use Rattle.model.specs.Image.{epochOf, blanks}
+use Rattle.model.specs.Ledger.{inUse}
 use Rattle.model.specs.State.{State, holds, cacheOf, isMarked}
-use Rattle.model.specs.Steps.{Step, nothing, _then_, move, eraseStep, makeRoom, dropWrite, logStore, logStores, merged, fillCopy, copy, writeOut, evict}
+use Rattle.model.specs.Steps.{Step, nothing, _then_, move, entryStore, entryStores, notedErase, eraseStep, makeRoom, dropWrite, logStore, logStores, merged, fillCopy, copy, writeOut, evict}
 use Rattle.model.specs.Operations.{fits, outgoing, evictAny, makeWay, appendLog, startLog, write}
 use Rattle.model.specs.Calls.{Call, writeCall, refusal, sizesOf, planOf, doneAnswer, carryOut, call}
 use Rattle.model.specs.StoresMade.{DoneWith, makesWay, EndsWithLog, LogComesLast}
@@ -27,7 +29,6 @@ use Rattle.model.proofs.Limits.{pages-some}
 use Rattle.model.proofs.Tested.{bounds}
 use Rattle.model.proofs.Write.{write-passed}
 use Rattle.model.proofs.Programs.{isNoProgram, all-joined, all-row, none-units}
-use Rattle.model.proofs.ProgramsRise.{erase-none}
 
 -- ---- a call and its last store
 
@@ -60,12 +61,21 @@ unfolding _then_
 then-makes-way f g s d h k = all-joined makesWay (f s d .stores) _ h (k (f s d .state) (applyAll (s .sizes) d (f s d .stores)))
 
 module _ (z : Sizes) where
+  erase-makes-way : (s : State) (d : Device) → all makesWay (eraseStep z s d .stores) ≡ true
+  unfolding eraseStep notedErase entryStores entryStore entryTag makesWay kind tagBytes nothing all
+  erase-makes-way s d = go (true-or-false (empty (s .gc))) (true-or-false (leb 1 (blanks z d (inUse z d))))
+    where
+      go : (empty (s .gc) ≡ true) ⊎ (empty (s .gc) ≡ false) → (leb 1 (blanks z d (inUse z d)) ≡ true) ⊎ (leb 1 (blanks z d (inUse z d)) ≡ false) → all makesWay (eraseStep z s d .stores) ≡ true
+      go (inl e) q = rw e
+      go (inr e) (inl q) = rw (e, q)
+      go (inr e) (inr q) = rw (e, q)
+
   room-makes-way : (s : State) (d : Device) → all makesWay (makeRoom z s d .stores) ≡ true
   unfolding makeRoom nothing all
   room-makes-way s d = go (true-or-false (empty (s .free)))
     where
       go : (empty (s .free) ≡ true) ⊎ (empty (s .free) ≡ false) → all makesWay (makeRoom z s d .stores) ≡ true
-      go (inl f) = rw f (none-makes-way (eraseStep z s d .stores) (erase-none z s d))
+      go (inl f) = rw f (erase-makes-way s d)
       go (inr f) = rw f
 
   copy-makes-way : (b : ℕ) (bytes : List ℕ) (s : State) (d : Device) → all makesWay (copy z dirtyKind b bytes s d .stores) ≡ true

@@ -96,7 +96,6 @@ module _ {z : Sizes} (bounds : Limits z) {c first k e b off : ℕ} {bytes : List
     zeros-are = zeros-tag k o (pagesFor z (length bytes)) e b off (length bytes);
     pages-are = pages-at o ∙ ap (pagesFor z) (sym (extent-at o));
     bytes-inside = rw (offset-at o, extent-at o) (log .bytes-in);
-    ordinal-below = rw (ordinal-at o, pages-at o) ho;
     whole = go (log .whole);
   }
     where
@@ -105,13 +104,13 @@ module _ {z : Sizes} (bounds : Limits z) {c first k e b off : ℕ} {bytes : List
       go (inl q) = inl (kind-at o ∙ q)
       go (inr q) = inr (offset-at o ∙ q .0, extent-at o ∙ q .1)
 
-  follows-at : (o : ℕ) → Follows (tagAt o) (tagAt (suc o))
-  follows-at o = record {
+  follows-at : (o : ℕ) → suc o < pagesFor z (length bytes) → Follows (tagAt o) (tagAt (suc o))
+  follows-at o ho = record {
     before-used = blank-at o;
     kind-same = kind-at (suc o) ∙ sym (kind-at o);
     epoch-same = epoch-at (suc o) ∙ sym (epoch-at o);
     back-same = back-at (suc o) ∙ sym (back-at o);
-    goes = goes-on (ordinal-at (suc o) ∙ omega (arith, ordinal-at o)) (pages-at (suc o) ∙ sym (pages-at o)) (offset-at (suc o) ∙ sym (offset-at o))
+    goes = goes-on (ordinal-at (suc o) ∙ omega (arith, ordinal-at o)) (rw (ordinal-at (suc o), pages-at (suc o)) ho) (pages-at (suc o) ∙ sym (pages-at o)) (offset-at (suc o) ∙ sym (offset-at o))
         (extent-at (suc o) ∙ sym (extent-at o));
   }
 
@@ -202,7 +201,7 @@ module _ {z : Sizes} (bounds : Limits z) {c first k e b off : ℕ} {bytes : List
     next-fits (suc o) d ho s zero q = absurd (omega arith)
     next-fits (suc o) d ho s (suc m) q =
         let w : tagOf z d c m ≡ tagAt o = ap (tagOf z d c) (omega arith) ∙ s .written o (omega arith) in
-        rw w (follows-at o)
+        rw w (follows-at o ho)
     next-fits zero d ho s (suc m) q =
         let h : 0 < first = omega arith in
         let w : tagOf z d c m ≡ tagOf z d₀ c (first - 1) = s .before m (omega arith) ∙ ap (tagOf z d₀ c) (omega arith) in

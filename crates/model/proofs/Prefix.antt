@@ -4,13 +4,14 @@ use mathlib.Core.Path.{_≡_, refl, sym, subst}
 use mathlib.Core.Logic.{inl, inr, _≢_}
 use mathlib.Core.List.{List, [], _∷_, _++_, map, List·Memᴰ, List·Memᴰ·head, List·Memᴰ·tail}
 use native.Mathlib.Omega.{arith}
-use lib.ListN.{take}
+use lib.ListN.{length, take, drop}
 use Rattle.lists.specs.Lists.{row, ff}
 use Rattle.lists.proofs.Parts.{splice-comm, length-ff, Apart}
 use Rattle.model.specs.declared.Sizes.{Sizes}
 use Rattle.model.specs.Sizes.{Device, bucketSize, pageIndex}
 use Rattle.model.specs.Stores.{Store, program, erase, unit, apply, applyAll}
-use Rattle.model.proofs.Safe.{Along}
+use Rattle.model.specs.Promise.{Tear, torn}
+use Rattle.model.proofs.Safe.{Along, Cuts}
 use Rattle.model.proofs.Frames.{Lengths, Fits, row-apart, row-fits, page-in-flash, page-in-spare, bucket-in-flash, bucket-in-spare}
 
 module _ (z : Sizes) where
@@ -43,6 +44,21 @@ module _ (z : Sizes) where
   pub along-map : (Q R : Device → Type 0) → ((d : Device) → Q d → R d) → (d : Device) (ss : List Store) → Along z Q d ss → Along z R d ss
   along-map Q R f d [] a = f d a
   along-map Q R f d (s ∷ ss) a = (f d (a .0), along-map Q R f (apply z d s) ss (a .1))
+
+  -- ---- cuts
+
+  pub cuts-append : (Q : Device → Type 0) (d : Device) (ss ts : List Store) → Cuts z Q d ss → Cuts z Q (applyAll z d ss) ts → Cuts z Q d (ss ++ ts)
+  unfolding applyAll torn
+  cuts-append Q d [] ts a b = b
+  cuts-append Q d (program c k bytes tag ∷ ss) ts a b = (a .0, cuts-append Q (apply z d (program c k bytes tag)) ss ts (a .1) b)
+  cuts-append Q d (erase c ∷ ss) ts a b = (a .0, cuts-append Q (apply z d (erase c)) ss ts (a .1) b)
+  cuts-append Q d (unit u bytes ∷ ss) ts a b = (a .0, cuts-append Q (apply z d (unit u bytes)) ss ts (a .1) b)
+
+  pub cuts-at : (Q : Device → Type 0) (d : Device) (ss : List Store) → Cuts z Q d ss → (n : ℕ) → n < length ss → (t : Tear) → Q (torn z t (applyAll z d (take n ss)) (drop n ss))
+  unfolding applyAll
+  cuts-at Q d [] a n h t = absurd (omega arith)
+  cuts-at Q d (s ∷ ss) a zero h t = a .0 t
+  cuts-at Q d (s ∷ ss) a (suc n) h t = cuts-at Q (apply z d s) ss (a .1) n (omega arith) t
 
   -- ---- a row of stores that goes through the stages Q 0, Q 1, .., Q n
 

@@ -3,7 +3,7 @@ use Prim.Native.Nat.{ℕ, _-_, _≤_, _<_}
 use mathlib.Core.Path.{_≡_, refl, sym, ap, _∙_}
 use mathlib.Core.Logic.{_⊎_, inl, inr, _≢_}
 use mathlib.Core.Bool.{Bool, true, false}
-use mathlib.Core.List.{List, [], _++_, map}
+use mathlib.Core.List.{List, [], _++_, map, append-nil}
 use native.Mathlib.Omega.{arith}
 use native.Mathlib.Decide.{ℕ-discrete}
 use lib.ListN.{length, getD}
@@ -15,14 +15,15 @@ use Rattle.lists.proofs.Counts.{grown-some, times-self, times-append}
 use Rattle.model.specs.declared.Sizes.{Sizes}
 use Rattle.model.specs.declared.Entry.{Entry}
 use Rattle.model.specs.Sizes.{Device, pagesFor, body}
-use Rattle.model.specs.Stores.{applyAll, bucketBytes, unitStores}
+use Rattle.model.specs.Stores.{erase, applyAll, bucketBytes, unitStores}
 use Rattle.model.specs.Spare.{blank, readKind, writeKind, dirtyKind}
 use Rattle.model.specs.Image.{epochOf, isDirty, blanks}
+use Rattle.model.specs.Ledger.{wellFormed}
 use Rattle.model.specs.State.{State, moved, entry, holds, cacheOf, cachesOf, without, countAgrees, writeAgrees, stateFits, isMarked, remarked}
-use Rattle.model.specs.Steps.{Plan, Step, nothing, _then_, move, eraseStep, makeRoom, taken, dropWrite, takeCopy, merged, logStores, fillCopy, copy, writeOut, evict, freed}
+use Rattle.model.specs.Steps.{Plan, Step, nothing, _then_, move, makeRoom, taken, dropWrite, takeCopy, merged, logStores, fillCopy, copy, writeOut, evict}
 use Rattle.model.specs.Operations.{lastEpoch, recorded, counted, accept, takeWrite, victim, fits, makeWay, appendLog, startLog, write, touch, setMark, dropOldest, read, unclean, drainStores, drain, format, outgoing, evictAny, withoutOldest, isCurrent, makePlace, readCopy}
-use Rattle.model.specs.Recover.{isRescued, rescued, rescueStores, recover}
-use Rattle.model.specs.Calls.{formatCall, readCall, writeCall, eraseCall, drainCall, recoverCall, sizesOf, planOf}
+use Rattle.model.specs.Recover.{isRescued, rescued, rescueStores, rebuilt, swept, recover}
+use Rattle.model.specs.Calls.{formatCall, readCall, writeCall, eraseCall, drainCall, recoverCall, runningTests, tests, refusal, sizesOf, planOf}
 use Rattle.model.specs.StoresMade.{Rising, ProgramsRise}
 use Rattle.model.proofs.Limits.{pages-fit, on-chip}
 use Rattle.model.proofs.Frames.{length-bucket}
@@ -37,11 +38,12 @@ use Rattle.model.proofs.Inside.{places}
 use Rattle.model.proofs.InsideLive.{once-of, blanks-of}
 use Rattle.model.proofs.Steps.{some-left, room-there}
 use Rattle.model.proofs.StepsUnits.{oldest}
-use Rattle.model.proofs.Calling.{Range, Passed, read-passed}
+use Rattle.model.proofs.Calling.{Range, Passed, tests-passed, read-passed}
 use Rattle.model.proofs.Write.{victim-in, write-passed}
 use Rattle.model.proofs.Tested.{bounds, lens, formed, in-place, reads-in, writes-in, read-back, write-back, merged-size}
-use Rattle.model.proofs.Programs.{isNoProgram, Stage, stage-blanks, log-rises, log-stage, none-rise, all-concat, none-units, none-erase}
-use Rattle.model.proofs.ProgramsPool.{Counted, Pool, Rises, then-rises, nothing-rises, pool-moved, room-rises, taken-rises, taken-stage, taken-other, copy-rises, units-rise}
+use Rattle.model.proofs.Programs.{isNoProgram, Stage, stage-blanks, log-rises, log-stage, none-rise, all-joined, all-concat, none-units, none-erase}
+use Rattle.model.proofs.ProgramsLedger.{shape-of}
+use Rattle.model.proofs.ProgramsPool.{Counted, Pool, Rises, then-rises, nothing-rises, pool-moved, erase-rises, room-rises, taken-rises, taken-stage, taken-other, copy-rises, units-rise}
 
 -- ---- calls without programs
 
@@ -49,21 +51,15 @@ format-none : (z : Sizes) → all isNoProgram (format z .stores) ≡ true
 unfolding format
 format-none z = none-erase (below (z .c))
 
-pub erase-none : (z : Sizes) (s : State) (d : Device) → all isNoProgram (eraseStep z s d .stores) ≡ true
-unfolding eraseStep freed nothing all isNoProgram
-erase-none z s d = go (true-or-false (empty (s .gc)))
-  where
-    go : (empty (s .gc) ≡ true) ⊎ (empty (s .gc) ≡ false) → all isNoProgram (eraseStep z s d .stores) ≡ true
-    go (inl e) = rw e
-    go (inr e) = rw e
-
 drain-none : (z : Sizes) (d : Device) (s : State) → all isNoProgram (drain z s d .stores) ≡ true
 unfolding drain drainStores
 drain-none z d s = all-concat isNoProgram (drainStores z d s) (λ b. none-units z b (merged z s d b)) (keep (unclean z d s) (below (z .b)))
 
 recover-none : (z : Sizes) (d : Device) → all isNoProgram (recover z d .stores) ≡ true
-unfolding recover rescueStores
-recover-none z d = all-concat isNoProgram (rescueStores z d) (λ b. none-units z b (rescued z d b)) (keep (isRescued z d) (below (z .b)))
+unfolding recover rebuilt rescueStores
+recover-none z d =
+    let e = applyAll z d (map erase (swept z d)) in
+    all-joined isNoProgram (map erase (swept z d)) _ (none-erase (swept z d)) (all-concat isNoProgram (rescueStores z e) (λ b. none-units z b (rescued z e b)) (keep (isRescued z e) (below (z .b))))
 
 -- a copy leaves the write queue
 copy-writes : (z : Sizes) (k b : ℕ) (bytes : List ℕ) (s : State) (d : Device) → (empty (s .free) ≡ false) ⊎ (empty (s .gc) ≡ false) → copy z k b bytes s d .state .writes ≡ s .writes
@@ -76,13 +72,18 @@ accept-sizes b n s = refl
 
 -- ---- a call that passed its tests
 
+pub erase-passed : (s : State) (d : Device) → refusal eraseCall s d ≡ 0 → Passed s d
+unfolding refusal tests
+erase-passed s d r = tests-passed s d [] (rw (append-nil (runningTests s d)) r) .0
+
 module _ (s : State) (d : Device) (pass : Passed s d) where
   abbrev z : Sizes
   z = s .sizes
 
   pub start : Pool (s .sizes) s d
-  unfolding stateFits writeAgrees
+  unfolding stateFits writeAgrees wellFormed
   start = record {
+    bounds = bounds s d pass;
     counted = record {
       at-sizes = refl;
       counts = all-maps (countAgrees z d) (writeAgrees z d) (s .writes) (every-at _ (pass .state-fits) 4) (every-at _ (pass .state-fits) 6) (λ e m h. every-at _ h 3);
@@ -91,6 +92,7 @@ module _ (s : State) (d : Device) (pass : Passed s d) where
     in-chip = in-place s d pass;
     once = λ c. go c (ltb c (body z)) (once-of (body z) s (every-at _ (pass .state-fits) 0) c);
     blanks = blanks-of z d (s .free) (every-at _ (pass .state-fits) 7);
+    ledger = shape-of z (bounds s d pass .p-low) d (every-at _ (pass .well-formed) 2) (every-at _ (pass .well-formed) 3) (every-at _ (pass .state-fits) 13);
   }
     where
       go : (c : ℕ) (t : Bool) → places s c ≡ (if t then 1 else 0) → places s c ≤ 1
@@ -119,7 +121,7 @@ module _ (s : State) (d : Device) (pass : Passed s d) where
     unfolding moved
     left-pool e pool = pool-moved z s left e e pool refl (pool .lens)
         (λ c. omega (arith, times-left (s .reads) b c, times-append c (s .gc) (cachesOf b (s .reads)), ap (times c) (caches-map (remarked b false) (keeps-remarked b false) (s .writes))))
-        (λ c. omega arith) (λ c q k hk. refl) (counts-remarked z e b false (s .writes) (pool .counted .counts))
+        (λ c. omega arith) (λ c q k hk. refl) (counts-remarked z e b false (s .writes) (pool .counted .counts)) (pool .ledger)
 
     left-some : Some (moved s (without b (s .reads)) (map (remarked b false) (s .writes)) (s .gc ++ cachesOf b (s .reads)) (s .free))
     unfolding moved
@@ -213,7 +215,7 @@ module _ (s : State) (d : Device) (pass : Passed s d) where
         record {
           rises = then-rises z (Pool z) (Pool z) f (move (dropWrite v)) s d refl r (nothing-rises z (Pool z) (dropWrite v t) after d
               (pool-moved z t (dropWrite v t) after after (r .left) refl (r .left .lens) (λ c. omega (arith, times-left (t .writes) v c, times-append c (t .gc) (cachesOf v (t .writes)))) (λ c. omega arith)
-              (λ c q k hk. refl) (all-without (countAgrees z after) (t .writes) v (r .left .counted .counts))));
+              (λ c q k hk. refl) (all-without (countAgrees z after) (t .writes) v (r .left .counted .counts)) (r .left .ledger)));
           absent-now = rw e absent;
           some-there = inr (rw (e, cachesOf-one (s .writes) v w maps-v) (grown-some (t .gc) w));
         }
@@ -349,6 +351,6 @@ unfolding ProgramsRise sizesOf planOf
 programs-rise (formatCall z) s d r = none-rise z (format z .stores) (format-none z) d
 programs-rise (readCall b off buffer) s d r = let pass = read-passed s d b off buffer r in read-rises s d (pass .0) b (pass .1 .b-in) .rising
 programs-rise (writeCall b off bytes) s d r = let pass = write-passed s d b off bytes r in write-rises s d (pass .0) b off bytes (pass .1) .rising
-programs-rise eraseCall s d r = none-rise (s .sizes) (eraseStep (s .sizes) s d .stores) (erase-none (s .sizes) s d) d
+programs-rise eraseCall s d r = erase-rises (s .sizes) s d (start s d (erase-passed s d r)) .rising
 programs-rise drainCall s d r = none-rise (s .sizes) (drain (s .sizes) s d .stores) (drain-none (s .sizes) d s) d
 programs-rise (recoverCall z) s d r = none-rise z (recover z d .stores) (recover-none z d) d

@@ -18,7 +18,8 @@ use Rattle.model.specs.Operations.{lastEpoch, touch, dropOldest, read, w
 use Rattle.model.specs.Calls.{readCall, planOf}
 use Rattle.model.specs.Promise.{feed}
 use Rattle.model.proofs.Limits.{Limits, limits-of}
-use Rattle.model.proofs.Safe.{plainAt, Inv, Owed, Pays}
+use Rattle.model.proofs.Safe.{plainAt}
+use Rattle.model.proofs.Invariant.{Inv, Owed, Pays}
 use Rattle.model.proofs.Queues.{absent, maps-without}
 use Rattle.model.proofs.QueuesMerged.{length-merged, merged-plain}
 use Rattle.model.proofs.Inside.{Inside}
@@ -177,5 +178,6 @@ read-pays z b off buffer s d plain fits i r =
     own : limits (s .sizes) ≡ true → Inv (s .sizes) s d plain → Owed (s .sizes) (readCall b off buffer) s d plain
     own f i' =
         let pass = read-passed s d b off buffer r in
-        pays-good (s .sizes) (readCall b off buffer) s d plain refl
-        (read-good (s .sizes) (limits-of (s .sizes) f) plain s d (inside (s .sizes) s d plain i' (pass .0 .runs)) b (pass .1 .b-in))
+        let B = limits-of (s .sizes) f in
+        pays-good (s .sizes) (B .p-low) (readCall b off buffer) s d plain refl
+        (read-good (s .sizes) B plain s d (inside (s .sizes) s d plain i' (pass .0 .runs)) b (pass .1 .b-in))

@@ -16,7 +16,7 @@ use Rattle.model.specs.declared.Sizes.{Sizes}
 use Rattle.model.specs.Sizes.{Device, body}
 use Rattle.model.specs.Stores.{bucketBytes, diskBytes}
 use Rattle.model.specs.Image.{epochOf, backOf, isWrite, isDirty, complete}
-use Rattle.model.specs.Recover.{isChosen, flushed, isDroppedCopy, isOldCopy, recover}
+use Rattle.model.specs.Recover.{isChosen, flushed, isDroppedCopy, isOldCopy, rebuilt}
 use Rattle.model.proofs.Limits.{on-chip}
 use Rattle.model.proofs.Views.{Lay, SafeAt, copied, uncopied, Newest, lay-base}
 use Rattle.model.proofs.Safe.{givesOf, holdsOf, view, plainAt, Safe, Ready}
@@ -44,19 +44,19 @@ module _ (z : Sizes) (d : Device) (F : Formed z d) where
     pub own-bytes : (c : ℕ) → c < body z → isDroppedCopy z d c ≡ true → isDirty z d c ≡ true → flushed z d (backOf z d c) ≡ false
         → (i : ℕ) → getD (diskBytes z e (backOf z d c)) i 0 ≡ getD (bucketBytes z d c) i 0
 
-  module _ (p-pos : 1 ≤ z .p) (plain : List ℕ) (e : Device) (kept : Rescued plain e) (done rest : List ℕ) (parts : recover z d .state .gc ≡ done ++ rest) where
+  module _ (p-pos : 1 ≤ z .p) (plain : List ℕ) (e : Device) (kept : Rescued plain e) (n : ℕ) (done rest : List ℕ) (parts : rebuilt z d n .state .gc ≡ done ++ rest) where
     in-done : (x : ℕ) → 1 ≤ times x done → Retired z d x
-    in-done x h = retired z d x (omega (arith, ap (times x) parts, times-append x done rest))
+    in-done x h = retired z d n x (omega (arith, ap (times x) parts, times-append x done rest))
 
     below-done : Below z done
     below-done x h = on-chip z x (retired-below z d x (in-done x h))
 
     precedes : (x y : ℕ) → 1 ≤ times x done → 1 ≤ times y rest → Precedes z d x y
-    precedes x y p q = pairwise-cut (Precedes z d) done rest (subst (λ (l : List ℕ). Pairwise (Precedes z d) l) parts (ordered z d)) x y p q
+    precedes x y p q = pairwise-cut (Precedes z d) done rest (subst (λ (l : List ℕ). Pairwise (Precedes z d) l) parts (ordered z d n)) x y p q
 
     -- a bucket of the queue that is not gone comes later
     left-in : (y : ℕ) → Retired z d y → ¬ (1 ≤ times y done) → 1 ≤ times y rest
-    left-in y r h = omega (arith, in-gc z d y r, ap (times y) parts, times-append y done rest)
+    left-in y r h = omega (arith, in-gc z d n y r, ap (times y) parts, times-append y done rest)
 
     without : Without (view z e) (view z (gone z e done)) (λ c. 1 ≤ times c done)
     without = without-gone z p-pos e (kept .lens) done below-done
@@ -172,5 +172,5 @@ module _ (z : Sizes) (d : Device) (F : Formed z d) where
         go (inl f) = safe-flushed b f (kept .safe b)
         go (inr f) = safe-unflushed b f (kept .safe b)
 
-  pub ready-recovered : 1 ≤ z .p → (plain : List ℕ) (e : Device) → Rescued plain e → Ready z plain (recover z d .state .gc) e
-  ready-recovered p-pos plain e kept = along-erases z (Safe z plain) e (recover z d .state .gc) (safe-done p-pos plain e kept)
+  pub ready-recovered : 1 ≤ z .p → (plain : List ℕ) (e : Device) → Rescued plain e → (n : ℕ) → Ready z plain (rebuilt z d n .state .gc) e
+  ready-recovered p-pos plain e kept n = along-erases z (Safe z plain) e (rebuilt z d n .state .gc) (safe-done p-pos plain e kept n)

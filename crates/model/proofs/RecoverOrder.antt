@@ -11,7 +11,7 @@ use Rattle.lists.proofs.Orders.{Pairwise, pairwise-append, pairwise-any, pairwi
 use Rattle.model.specs.declared.Sizes.{Sizes}
 use Rattle.model.specs.Sizes.{Device, body}
 use Rattle.model.specs.Image.{epochOf, isWrite}
-use Rattle.model.specs.Recover.{buckets, byEpoch, isChosen, isDroppedWrite, isDroppedCopy, isOldCopy, recover}
+use Rattle.model.specs.Recover.{buckets, byEpoch, isChosen, isDroppedWrite, isDroppedCopy, isOldCopy, rebuilt}
 use Rattle.model.proofs.BucketKinds.{complete-copy, copy-no-write}
 use Rattle.model.proofs.RecoverChoice.{in-buckets, from-buckets, Chosen, chosen-test, old-is, dropped-copy, dropped-write}
 
@@ -41,22 +41,22 @@ module _ (z : Sizes) (d : Device) where
   abbrev logs : List ℕ
   logs = byEpoch z d (buckets z d (isDroppedWrite z d))
 
-  times-gc : (x : ℕ) → times x (recover z d .state .gc) ≡ times x olds + (times x copies + times x logs)
-  unfolding recover
-  times-gc x = times-append x olds (copies ++ logs) ∙ ap (λ (n : ℕ). times x olds + n) (times-append x copies logs)
+  times-gc : (n x : ℕ) → times x (rebuilt z d n .state .gc) ≡ times x olds + (times x copies + times x logs)
+  unfolding rebuilt
+  times-gc n x = times-append x olds (copies ++ logs) ∙ ap (λ (m : ℕ). times x olds + m) (times-append x copies logs)
 
-  pub retired : (x : ℕ) → 1 ≤ times x (recover z d .state .gc) → Retired x
-  retired x h = go (decLt 0 (times x olds)) (decLt 0 (times x copies))
+  pub retired : (n x : ℕ) → 1 ≤ times x (rebuilt z d n .state .gc) → Retired x
+  retired n x h = go (decLt 0 (times x olds)) (decLt 0 (times x copies))
     where
       go : Dec (0 < times x olds) → Dec (0 < times x copies) → Retired x
       go (yes u) v = let r = in-class (isOldCopy z d) x u in old (r .1) (r .0)
       go (no u) (yes v) = let r = in-class (isDroppedCopy z d) x v in copy (r .1) (r .0)
-      go (no u) (no v) = let r = in-class (isDroppedWrite z d) x (omega (arith, times-gc x)) in log (r .1) (r .0)
+      go (no u) (no v) = let r = in-class (isDroppedWrite z d) x (omega (arith, times-gc n x)) in log (r .1) (r .0)
 
-  pub in-gc : (x : ℕ) → Retired x → 1 ≤ times x (recover z d .state .gc)
-  in-gc x (old h e) = omega (arith, times-gc x, from-class (isOldCopy z d) x h e)
-  in-gc x (copy h e) = omega (arith, times-gc x, from-class (isDroppedCopy z d) x h e)
-  in-gc x (log h e) = omega (arith, times-gc x, from-class (isDroppedWrite z d) x h e)
+  pub in-gc : (n x : ℕ) → Retired x → 1 ≤ times x (rebuilt z d n .state .gc)
+  in-gc n x (old h e) = omega (arith, times-gc n x, from-class (isOldCopy z d) x h e)
+  in-gc n x (copy h e) = omega (arith, times-gc n x, from-class (isDroppedCopy z d) x h e)
+  in-gc n x (log h e) = omega (arith, times-gc n x, from-class (isDroppedWrite z d) x h e)
 
   pub retired-below : (x : ℕ) → Retired x → x < body z
   retired-below x (old h e) = h
@@ -102,9 +102,9 @@ module _ (z : Sizes) (d : Device) where
   rising-logs = pairwise-map (λ x y. epochOf z d x ≤ epochOf z d y) Precedes logs (λ x y p q h. (omega (arith, in-logs x p, in-logs y q), λ e. h))
       (rising-sort (epochOf z d) (buckets z d (isDroppedWrite z d)))
 
-  pub ordered : Pairwise Precedes (recover z d .state .gc)
-  unfolding recover
-  ordered = pairwise-append Precedes olds (copies ++ logs)
+  pub ordered : (n : ℕ) → Pairwise Precedes (rebuilt z d n .state .gc)
+  unfolding rebuilt
+  ordered n = pairwise-append Precedes olds (copies ++ logs)
       (pairwise-any Precedes olds (λ x y p q. copy-precedes x y (omega (arith, in-olds x p)) (omega (arith, in-olds x p))))
       (pairwise-append Precedes copies logs
       (pairwise-any Precedes copies (λ x y p q. copy-precedes x y (omega (arith, in-copies x p)) (omega (arith, in-copies x p, in-copies y q))))

@@ -21,7 +21,7 @@ use Rattle.model.specs.Sizes.{Device, body}
 use Rattle.model.specs.Spare.{writeKind, kind}
 use Rattle.model.specs.Image.{used, epochOf, backOf, isWrite, isCopy, pageBlank, blanks, headTag}
 use Rattle.model.specs.State.{entry, holds, cacheBucket, backBucket, caches, backs}
-use Rattle.model.specs.Recover.{buckets, byEpoch, isNewer, amongNewest, newest, isChosen, isOnly, keptWrites, isDroppedWrite, isRemaining, keptCopies, isDroppedCopy, isOldCopy, isFree, keptRead, keptWrite, recover}
+use Rattle.model.specs.Recover.{buckets, byEpoch, isNewer, amongNewest, newest, isChosen, isOnly, keptWrites, isDroppedWrite, isRemaining, keptCopies, isDroppedCopy, isOldCopy, isFree, keptRead, keptWrite, rebuilt}
 use Rattle.model.proofs.Heads.{Blank}
 use Rattle.model.proofs.Formed.{Formed, unused-blank}
 use Rattle.model.proofs.Buckets.{gives-write, holds-parts, holds-from}
@@ -129,9 +129,9 @@ module _ (z : Sizes) (d : Device) where
       + (times c (buckets z d (isOldCopy z d)) + (times c (buckets z d (isDroppedCopy z d)) + times c (buckets z d (isDroppedWrite z d))))
       + times c (buckets z d (isFree z d))
 
-  places-recovered : (c : ℕ) → places (recover z d .state) c ≡ recoveredPlaces c
-  unfolding recover keptRead keptWrite
-  places-recovered c =
+  places-recovered : (n c : ℕ) → places (rebuilt z d n .state) c ≡ recoveredPlaces c
+  unfolding rebuilt keptRead keptWrite
+  places-recovered n c =
       omega (
         arith,
         times-slots (λ x. 0) (keptCopies z d) c,
@@ -171,8 +171,8 @@ module _ (z : Sizes) (d : Device) where
       (λ q. chosen-test z d c (kept-copy z d c (member-in c (keptCopies z d) q) .0))
       (λ q. kept-write z d c (member-in c (keptWrites z d) q) .0 .is-write))
 
-  pub once-recovered : (c : ℕ) → places (recover z d .state) c ≡ (if ltb c (body z) then 1 else 0)
-  once-recovered c = places-recovered c ∙ go (decLt c (body z))
+  pub once-recovered : (n c : ℕ) → places (rebuilt z d n .state) c ≡ (if ltb c (body z) then 1 else 0)
+  once-recovered n c = places-recovered n c ∙ go (decLt c (body z))
     where
       none : (l : List ℕ) → ¬ (c < body z) → (1 ≤ times c l → c < body z) → times c l ≡ 0
       none l out h = pick (decLt 0 (times c l))
@@ -200,25 +200,25 @@ module _ (z : Sizes) (d : Device) where
   blanks-fit [] = refl
   blanks-fit (c ∷ l) = and-true (le-leb (blanks z d c) (z .p) (count-le (z .p) (pageBlank z d c))) (blanks-fit l)
 
-  pub unmarked-recovered : all isUnmarked (recover z d .state .writes) ≡ true
-  unfolding recover keptWrite all isUnmarked entry
-  unmarked-recovered = go (byEpoch z d (keptWrites z d))
+  pub unmarked-recovered : (n : ℕ) → all isUnmarked (rebuilt z d n .state .writes) ≡ true
+  unfolding rebuilt keptWrite all isUnmarked entry
+  unmarked-recovered n = go (byEpoch z d (keptWrites z d))
     where
       go : (l : List ℕ) → all isUnmarked (slots (blanks z d) l) ≡ true
       go [] = refl
       go (c ∷ l) = go l
 
-  module _ (F : Formed z d) where
-    in-reads : (b c : ℕ) → Maps (recover z d .state .reads) b c → (1 ≤ times c (keptCopies z d)) × (backOf z d c ≡ b)
-    unfolding recover keptRead
+  module _ (F : Formed z d) (next : ℕ) where
+    in-reads : (b c : ℕ) → Maps (rebuilt z d next .state .reads) b c → (1 ≤ times c (keptCopies z d)) × (backOf z d c ≡ b)
+    unfolding rebuilt keptRead
     in-reads b c m = in-slots (λ x. 0) (keptCopies z d) b c m
 
-    in-writes : (b c : ℕ) → Maps (recover z d .state .writes) b c → (1 ≤ times c (keptWrites z d)) × (backOf z d c ≡ b)
-    unfolding recover keptWrite
+    in-writes : (b c : ℕ) → Maps (rebuilt z d next .state .writes) b c → (1 ≤ times c (keptWrites z d)) × (backOf z d c ≡ b)
+    unfolding rebuilt keptWrite
     in-writes b c m = in-slots (blanks z d) (keptWrites z d) b c m
 
-    pub reads-recovered : Reads z d (recover z d .state .reads)
-    unfolding recover keptRead
+    pub reads-recovered : Reads z d (rebuilt z d next .state .reads)
+    unfolding rebuilt keptRead
     reads-recovered = record {
       read-once = slots-once (λ x. 0) (keptCopies z d) kept-copy-once
           (λ c e p q. let k = kept-copy z d c p in let l = kept-copy z d e q in chosen-one z d F c e (k .1) (l .1) (k .0) (l .0));
@@ -229,8 +229,8 @@ module _ (z : Sizes) (d : Device) where
           kept-copy z d c (r .0) .0 .is-newest x (h .0) (h .1) (h .2 ∙ sym (r .1));
     }
 
-    pub writes-recovered : Writes z d (recover z d .state .writes)
-    unfolding recover keptWrite
+    pub writes-recovered : Writes z d (rebuilt z d next .state .writes)
+    unfolding rebuilt keptWrite
     writes-recovered = record {
       write-once = slots-once (blanks z d) (keptWrites z d) kept-write-once
           (λ c e p q b. let k = kept-write z d c p in kept-write z d e q .0 .no-other c (k .1) (k .0 .is-write) b);
@@ -249,22 +249,22 @@ module _ (z : Sizes) (d : Device) where
         (λ c e p q. let k = ok c p in let l = ok e q in F .epochs-differ c e (k .0) (l .0) (k .1) (l .1))
         (λ c p h. ltb-true _ _ h)
 
-    pub few-reads-recovered : length (recover z d .state .reads) ≤ z .r
-    unfolding recover keptRead keptCopies isRemaining
+    pub few-reads-recovered : length (rebuilt z d next .state .reads) ≤ z .r
+    unfolding rebuilt keptRead keptCopies isRemaining
     few-reads-recovered = rw (length-slots (λ x. 0) (keptCopies z d)) (few (z .r) (isRemaining z d) (λ c p.
         let r = in-buckets z d (isRemaining z d) c p in
         (r .1, copy-used z d c (complete-copy z d c (chosen-of z d c (and-left (isChosen z d c) _ (r .0)) .is-complete)))))
 
-    pub few-writes-recovered : length (recover z d .state .writes) ≤ z .w
-    unfolding recover keptWrite keptWrites
+    pub few-writes-recovered : length (rebuilt z d next .state .writes) ≤ z .w
+    unfolding rebuilt keptWrite keptWrites
     few-writes-recovered = rw (length-slots (blanks z d) (keptWrites z d)) (few (z .w) (isOnly z d) (λ c p.
         let r = in-buckets z d (isOnly z d) c p in
         (r .1, write-used z d c (only-of z d c (r .0) .is-write))))
 
     -- ---- free buckets are blank
 
-    pub free-recovered : (c : ℕ) → 1 ≤ times c (recover z d .state .free) → Blank z d c
-    unfolding recover isFree
+    pub free-recovered : (c : ℕ) → 1 ≤ times c (rebuilt z d next .state .free) → Blank z d c
+    unfolding rebuilt isFree
     free-recovered c h =
         let r = in-buckets z d (isFree z d) c h in
         unused-blank z d c (λ j hj. F .pages-fit c j (r .1) hj) (not-true _ (r .0))

@@ -23,7 +23,6 @@ pub record Fields (z : Sizes) (tag : List ℕ) : Type 0 where
   pub zeros-are : zeros tag ≡ true
   pub pages-are : pages tag ≡ pagesFor z (extent tag)
   pub bytes-inside : offset tag + extent tag ≤ bucketSize z
-  pub ordinal-below : ordinal tag < pages tag
   pub whole : (kind tag ≡ writeKind) ⊎ ((offset tag ≡ 0) × (extent tag ≡ bucketSize z))
 
 pub fields-of : (z : Sizes) (tag : List ℕ) → fieldsFit z tag ≡ true → Fields z tag
@@ -36,8 +35,7 @@ fields-of z tag h = record {
   zeros-are = every-at _ h 3;
   pages-are = eqb-true _ _ (every-at _ h 4);
   bytes-inside = leb-true _ _ (every-at _ h 5);
-  ordinal-below = ltb-true _ _ (every-at _ h 6);
-  whole = go (eqb (kind tag) writeKind) refl (every-at _ h 7);
+  whole = go (eqb (kind tag) writeKind) refl (every-at _ h 6);
 }
   where
     go : (t : Bool) → eqb (kind tag) writeKind ≡ t → t || (eqb (offset tag) 0 && eqb (extent tag) (bucketSize z)) ≡ true
@@ -54,8 +52,7 @@ fields-test z tag f =
     (every-more _ _ (f .zeros-are)
     (every-more _ _ (eq-eqb _ _ (f .pages-are))
     (every-more _ _ (le-leb _ _ (f .bytes-inside))
-    (every-more _ _ (lt-ltb _ _ (f .ordinal-below))
-    (every-more _ _ (go (f .whole)) every-none)))))))
+    (every-more _ _ (go (f .whole)) every-none))))))
   where
     go : (kind tag ≡ writeKind) ⊎ ((offset tag ≡ 0) × (extent tag ≡ bucketSize z))
         → eqb (kind tag) writeKind || (eqb (offset tag) 0 && eqb (extent tag) (bucketSize z)) ≡ true
@@ -65,7 +62,7 @@ fields-test z tag f =
 -- a page goes on with the log of the page before it, or begins one
 pub data Goes (before tag : List ℕ) : Type 0 where
   begins : ordinal tag ≡ 0 → kind tag ≡ writeKind → Goes before tag
-  goes-on : ordinal tag ≡ ordinal before + 1 → pages tag ≡ pages before → offset tag ≡ offset before → extent tag ≡ extent before → Goes before tag
+  goes-on : ordinal tag ≡ ordinal before + 1 → ordinal tag < pages tag → pages tag ≡ pages before → offset tag ≡ offset before → extent tag ≡ extent before → Goes before tag
 
 pub record Follows (before tag : List ℕ) : Type 0 where
   pub before-used : blank before ≡ false
@@ -86,7 +83,7 @@ follows-of before tag h = record {
   where
     go : (t : Bool) → eqb (ordinal tag) 0 ≡ t → (if t then eqb (kind tag) writeKind else continues before tag) ≡ true → Goes before tag
     go true e q = begins (eqb-true _ _ e) (eqb-true _ _ q)
-    go false e q = goes-on (eqb-true _ _ (every-at _ q 0)) (eqb-true _ _ (every-at _ q 1)) (eqb-true _ _ (every-at _ q 2)) (eqb-true _ _ (every-at _ q 3))
+    go false e q = goes-on (eqb-true _ _ (every-at _ q 0)) (ltb-true _ _ (every-at _ q 4)) (eqb-true _ _ (every-at _ q 1)) (eqb-true _ _ (every-at _ q 2)) (eqb-true _ _ (every-at _ q 3))
 
 pub follows-test : (before tag : List ℕ) → Follows before tag → follows before tag ≡ true
 unfolding follows continues
@@ -99,5 +96,5 @@ follows-test before tag f =
   where
     go : Goes before tag → (if eqb (ordinal tag) 0 then eqb (kind tag) writeKind else continues before tag) ≡ true
     go (begins o k) = rw (eq-eqb (ordinal tag) 0 o) (eq-eqb _ _ k)
-    go (goes-on o n f l) = rw (ne-eqb (ordinal tag) 0 (λ q. omega arith))
-        (every-more _ _ (eq-eqb _ _ o) (every-more _ _ (eq-eqb _ _ n) (every-more _ _ (eq-eqb _ _ f) (every-more _ _ (eq-eqb _ _ l) every-none))))
+    go (goes-on o u n f l) = rw (ne-eqb (ordinal tag) 0 (λ q. omega arith))
+        (every-more _ _ (eq-eqb _ _ o) (every-more _ _ (eq-eqb _ _ n) (every-more _ _ (eq-eqb _ _ f) (every-more _ _ (eq-eqb _ _ l) (every-more _ _ (lt-ltb _ _ u) every-none)))))

@@ -1,23 +1,20 @@
--- The invariant of the promise: what holds of chip and disk between any two stores, and of the state between any two calls.
-use Prim.Native.Nat.{ℕ, zero, suc, _+_, _-_, _*_, _≤_, _<_}
+-- The invariant of the promise: what holds of chip and disk between any two stores, as long as no erase is half done.
+use Prim.Native.Nat.{ℕ, zero, suc, _+_, _-_, _*_, _<_}
 use mathlib.Core.Path.{_≡_}
-use mathlib.Core.Logic.{_⊎_, _≢_}
 use mathlib.Core.Bool.{Bool, true, _&&_}
 use mathlib.Core.Option.{Option, none, some}
 use mathlib.Core.List.{List, [], _∷_, map}
-use lib.ListN.{length, take, getD}
+use lib.ListN.{getD}
 use lib.Dec.{leb, ltb, eqb}
-use Rattle.lists.specs.Lists.{if_then_else_, all, part}
+use Rattle.lists.specs.Lists.{if_then_else_, part}
 use Rattle.model.specs.declared.Sizes.{Sizes}
-use Rattle.model.specs.declared.Answer.the-variants.{Done, Cut}
 use Rattle.model.specs.declared.Entry.{Entry}
-use Rattle.model.specs.Sizes.{Device, limits, lengths, bucketSize, body}
-use Rattle.model.specs.Stores.{Store, erase, apply, applyAll, tagOf, bucketBytes, diskBytes}
+use Rattle.model.specs.Sizes.{Device, lengths, bucketSize, body}
+use Rattle.model.specs.Stores.{Store, erase, apply, tagOf, bucketBytes, diskBytes}
 use Rattle.model.specs.Spare.{offset, extent}
-use Rattle.model.specs.Image.{epochOf, wellFormed, backOf, isWrite, isDirty, complete, endsLog, logBytes}
-use Rattle.model.specs.State.{State, holds, cacheOf, countAgrees, topEpoch, stateFits, isMarked}
-use Rattle.model.specs.Calls.{Call, refusal, planOf}
-use Rattle.model.specs.Promise.{feed}
+use Rattle.model.specs.Image.{epochOf, bodyFits, backOf, isWrite, isDirty, complete, endsLog, logBytes}
+use Rattle.model.specs.State.{isMarked}
+use Rattle.model.specs.Promise.{Tear, torn}
 use Rattle.model.proofs.Views.{View, SafeAt}
 use Rattle.model.proofs.Queues.{Maps}
 
@@ -59,11 +56,11 @@ module _ (z : Sizes) where
   unfoldable pub Safe : List ℕ → Device → Type 0
   Safe plain d = (b : ℕ) → SafeAt (view d) b (plainAt plain b)
 
-  -- recovery accepts the chip
+  -- the buckets outside the ledger are made by the page rules
   pub record Chip (d : Device) : Type 0 where
     pub lens : lengths z d ≡ true
-    pub formed : wellFormed z d ≡ true
-    pub epochs : topEpoch z d < 4294967296
+    pub formed : bodyFits z d ≡ true
+    pub epochs : (c : ℕ) → c < body z → epochOf z d c < 4294967296
 
   -- between any two stores
   pub record Sound (plain : List ℕ) (d : Device) : Type 0 where
@@ -76,6 +73,11 @@ module _ (z : Sizes) where
   abbrev pub Along : (Device → Type 0) → Device → List Store → Type 0
   Along Q d [] = Q d
   Along Q d (s ∷ ss) = Q d × Along Q (apply z d s) ss
+
+  -- Q holds of what a cut in any of the stores leaves, however it tears that one
+  abbrev pub Cuts : (Device → Type 0) → Device → List Store → Type 0
+  Cuts Q d [] = Unit {0}
+  Cuts Q d (s ∷ ss) = ((t : Tear) → Q (torn z t d (s ∷ ss))) × Cuts Q (apply z d s) ss
 
   -- every erase of the GC queue, in its order, keeps what is confirmed
   abbrev pub Ready : List ℕ → List ℕ → Device → Type 0
@@ -92,30 +94,3 @@ module _ (z : Sizes) where
 
   abbrev pub Marks : List ℕ → Device → (reads writes : List Entry) → Type 0
   Marks plain d reads writes = (b : ℕ) → isMarked b writes ≡ true → Absorbed plain d reads b
-
-  -- ---- between two calls
-
-  -- of a running state: number 5 holds, the GC queue may be erased at any time, queued buckets are the newest of their back-end bucket, and marks are true
-  pub record Live (s : State) (d : Device) (plain : List ℕ) : Type 0 where
-    pub fits : stateFits s d ≡ true
-    pub ready : Ready plain (s .gc) d
-    pub newest-reads : (b : ℕ) → holds b (s .reads) ≡ true → (c : ℕ) → holdsOf d c b ≡ true → epochOf z d c ≤ epochOf z d (cacheOf b (s .reads))
-    pub newest-writes : (b : ℕ) → holds b (s .writes) ≡ true → (c i : ℕ) → c ≢ cacheOf b (s .writes)
-        → (givesOf d c b i ≡ none) ⊎ (epochOf z d c ≤ epochOf z d (cacheOf b (s .writes)))
-    pub marks : Marks plain d (s .reads) (s .writes)
-
-  pub record Inv (s : State) (d : Device) (plain : List ℕ) : Type 0 where
-    pub sizes-are : s .sizes ≡ z
-    pub plain-length : length plain ≡ z .b * bucketSize z
-    pub sound : Sound plain d
-    pub live : s .running ≡ true → Live s d plain
-
-  -- what a call that is not refused owes, to the plain disk as its answer feeds it: each cut, and the whole plan. That its kept counts are true is
-  -- shown of every state, and given.
-  pub record Owed (k : Call) (s : State) (d : Device) (plain : List ℕ) : Type 0 where
-    pub cuts : (n : ℕ) → n < length (planOf k s d .stores) → Sound (feed z k Cut plain) (applyAll z d (take n (planOf k s d .stores)))
-    pub whole : all (countAgrees z (applyAll z d (planOf k s d .stores))) (planOf k s d .state .writes) ≡ true
-        → Inv (planOf k s d .state) (applyAll z d (planOf k s d .stores)) (feed z k Done plain)
-
-  abbrev pub Pays : Call → Type 0
-  Pays k = (s : State) (d : Device) (plain : List ℕ) → limits z ≡ true → Inv s d plain → refusal k s d ≡ 0 → Owed k s d plain

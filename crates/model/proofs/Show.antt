@@ -1,6 +1,6 @@
 -- Buckets that two devices show alike, and the buckets that each store leaves so.
 use Prim.Native.Nat.{ℕ, zero, suc, _-_, _≤_, _<_}
-use mathlib.Core.Path.{_≡_, refl, _∙_}
+use mathlib.Core.Path.{_≡_, refl, sym, _∙_}
 use mathlib.Core.Logic.{_≢_}
 use mathlib.Core.List.{List}
 use native.Mathlib.Omega.{arith}
@@ -50,6 +50,9 @@ module _ (z : Sizes) where
 
   pub same-refl : (d : Device) (c : ℕ) → Same d d c
   same-refl d c = record { tags-same = λ k hk. refl; bytes-same = refl }
+
+  pub same-sym : {d e : Device} {c : ℕ} → Same d e c → Same e d c
+  same-sym s = record { tags-same = λ k hk. sym (s .tags-same k hk); bytes-same = sym (s .bytes-same) }
 
   pub same-trans : {d e f : Device} {c : ℕ} → Same d e c → Same e f c → Same d f c
   same-trans s t = record { tags-same = λ k hk. t .tags-same k hk ∙ s .tags-same k hk; bytes-same = t .bytes-same ∙ s .bytes-same }

@@ -30,12 +30,14 @@ use Rattle.model.proofs.Queues.{Maps, absent-without, maps-without, cac
 use Rattle.model.proofs.QueuesGrown.{times-grown, maps-older}
 use Rattle.model.proofs.QueuesShown.{Reads, Writes, reads-kept, writes-kept, reads-without, reads-grown}
 use Rattle.model.proofs.QueuesErased.{gone, gone-lengths, gone-same}
+use Rattle.model.proofs.LedgerKept.{Ledger}
+use Rattle.model.proofs.FindableRuns.{ledger-later}
 use Rattle.model.proofs.Inside.{Inside, lens, in-chip, one-place, gc-below}
 use Rattle.model.proofs.StepsJoin.{erased-view, safe-erased, joined}
 use Rattle.model.proofs.Marks.{marks-kept}
 
 module _ (z : Sizes) (p-pos : 1 ≤ z .p) (plain : List ℕ) (s : State) (d e : Device) (j : Inside z plain s d) (b k : ℕ) (has-free : empty (s .free) ≡ false)
-    (run : Copied z plain (s .gc) (head (s .free)) b (s .next) k d e) where
+    (run : Copied z plain (s .gc) (head (s .free)) b (s .next) k d e) (ledger : Ledger z e (s .next)) where
   abbrev c : ℕ
   c = head (s .free)
 
@@ -153,6 +155,7 @@ module _ (z : Sizes) (p-pos : 1 ≤ z .p) (plain : List ℕ) (s : State) (d e : 
     sizes-are = j .sizes-are;
     plain-length = j .plain-length;
     chip = run .chip;
+    ledger = ledger-later z e (s .next) (s .next + 1) (omega arith) ledger;
     ready = ready-joined;
     once = λ x. omega (arith, count x, times-grown (entry b c 0) (without b (s .reads)) x, times-without (s .reads) b (j .reads .read-once) x, times-append x (s .gc) (cachesOf b (s .reads))) ∙ j .once x;
     reads = reads-after;

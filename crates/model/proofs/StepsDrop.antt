@@ -30,6 +30,7 @@ use Rattle.model.proofs.Buckets.{blank-gives, blank-holds, holds-parts,
 use Rattle.model.proofs.Queues.{Maps, absent, cachesOf-one, times-without, length-without, maps-times, without-maps}
 use Rattle.model.proofs.QueuesShown.{Reads, Writes, reads-kept, writes-kept, reads-without, writes-without}
 use Rattle.model.proofs.QueuesErased.{gone, gone-disk}
+use Rattle.model.proofs.LedgerKept.{Ledger}
 use Rattle.model.proofs.Inside.{Inside, lens, in-chip, one-place, gc-below, swept-lengths, swept-safe, read-same, write-same, who-gives, who-holds}
 use Rattle.model.proofs.StepsJoin.{same-left, erased-view, safe-erased, joined}
 use Rattle.model.proofs.QueuesGrown.{caches-map}
@@ -37,11 +38,13 @@ use Rattle.model.proofs.Marks.{keeps-remarked, marked-without, marked-c
 
 -- ---- a device that shows the same buckets
 
-pub same-inside : (z : Sizes) → 1 ≤ z .p → (plain : List ℕ) (s : State) (d e : Device) → Inside z plain s d → Chip z e → Ready z plain (s .gc) e → ((c : ℕ) → Same z d e c) → Inside z plain s e
-same-inside z p-pos plain s d e j chip ready still = record {
+pub same-inside : (z : Sizes) → 1 ≤ z .p → (plain : List ℕ) (s : State) (d e : Device) → Inside z plain s d → Chip z e → Ledger z e (s .next) → Ready z plain (s .gc) e
+    → ((c : ℕ) → Same z d e c) → Inside z plain s e
+same-inside z p-pos plain s d e j chip ledger ready still = record {
   sizes-are = j .sizes-are;
   plain-length = j .plain-length;
   chip = chip;
+  ledger = ledger;
   ready = ready;
   once = j .once;
   reads = reads-kept z p-pos d e (s .reads) (λ b c m. still c) (λ b c h q. still c) (j .reads);
@@ -66,6 +69,7 @@ requeued z plain s d j reads writes gc ready same r w m few-reads few-writes = r
   sizes-are = j .sizes-are;
   plain-length = j .plain-length;
   chip = j .chip;
+  ledger = j .ledger;
   ready = ready;
   once = λ c. ap (λ (n : ℕ). n + times c (s .free)) (same c) ∙ j .once c;
   reads = r;

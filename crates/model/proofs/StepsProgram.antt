@@ -12,7 +12,7 @@ use Rattle.lists.proofs.Counts.{times-self, times-rest}
 use Rattle.model.specs.declared.Sizes.{Sizes}
 use Rattle.model.specs.declared.Entry.{Entry}
 use Rattle.model.specs.Sizes.{Device, bucketSize, body}
-use Rattle.model.specs.Stores.{erase, apply, applyAll, bucketBytes}
+use Rattle.model.specs.Stores.{Store, erase, apply, applyAll, bucketBytes}
 use Rattle.model.specs.Spare.{readKind, dirtyKind}
 use Rattle.model.specs.Image.{isDirty}
 use Rattle.model.specs.State.{State, moved, entry, holds, isMarked, without}
@@ -22,10 +22,11 @@ use Rattle.model.proofs.Limits.{Limits}
 use Rattle.model.proofs.Safe.{view, plainAt, Safe, Sound, Along}
 use Rattle.model.proofs.Frames.{Lengths, lengths-kept}
 use Rattle.model.proofs.Prefix.{applyAll-append, along-map}
-use Rattle.model.proofs.Copy.{Copyable, Copied, copy-along, copy-done}
+use Rattle.model.proofs.Copy.{Copyable, Copied, log, copy-along, copy-done}
 use Rattle.model.proofs.Queues.{Maps, absent, absent-without}
 use Rattle.model.proofs.QueuesGrown.{maps-newest}
 use Rattle.model.proofs.QueuesErased.{gone, Below, below-head, below-tail, gone-disk, gone-fewer}
+use Rattle.model.proofs.FindableRuns.{Each, Harmless, log-harmless, next-new, ledger-runs, along-cuts}
 use Rattle.model.proofs.Inside.{Inside, lens, in-chip, one-place, gc-below, swept-safe, who-holds}
 use Rattle.model.proofs.Steps.{Good, then-good, room-good, Roomy, room-made}
 use Rattle.model.proofs.StepsCopy.{copied-inside}
@@ -83,6 +84,14 @@ module _ (z : Sizes) (B : Limits z) (plain : List ℕ) (b k : ℕ) (hb : b < z .
         go (inl q) = subst (λ (y : ℕ). Along z (Copyable z y b plain) d (map erase (s .gc))) (sym q)
             (along-disk z (B .p-low) plain b (s .gc) (gc-below z plain s d j) d (lens z plain s d j) (swept-disk (read-case q) (swept-safe z plain s d j b)) (j .ready))
 
+    abbrev stores : List Store
+    stores = logStores z (head (s .free)) 0 k (s .next) b 0 bytes
+
+    -- its epoch is above those of all entries
+    harmless : Each (Harmless z d) (logStores z (head (s .free)) 0 k (s .next) b 0 bytes)
+    harmless = log-harmless z B (head (s .free)) 0 k (s .next) b 0 bytes (log z B (head (s .free)) b (s .next) k bytes c-in hb (j .next-low) next-room hk len)
+        d (next-new z d (s .next) (j .ledger) (head (s .free)))
+
     pub program-along : Along z (Sound z plain) d (logStores z (head (s .free)) 0 k (s .next) b 0 bytes)
     program-along = copy-along z B (head (s .free)) b (s .next) k bytes c-in hb (j .next-low) next-room hk len d (j .chip) plain plain-bytes (s .gc) gs-in
         (j .free-blank (head (s .free)) c-free) (j .next-above) copyable
@@ -92,7 +101,10 @@ module _ (z : Sizes) (B : Limits z) (plain : List ℕ) (b k : ℕ) (hb : b < z .
         (j .free-blank (head (s .free)) c-free) (j .next-above) copyable
 
     pub program-good : (holds b (s .reads) ≡ true) ⊎ (length (s .reads) < z .r) → Good z plain (record { stores = logStores z (head (s .free)) 0 k (s .next) b 0 bytes; state = takeCopy b s }) d
-    program-good fewer = (program-along, copied-inside z (B .p-low) plain s d _ j b k has-free program-done unmarked next-room fewer)
+    program-good fewer = (
+      along-cuts z (B .p-low) plain stores d (s .next) (j .next-high) harmless (j .ledger) program-along,
+      copied-inside z (B .p-low) plain s d _ j b k has-free program-done (ledger-runs z (B .p-low) stores d (s .next) (lens z plain s d j) harmless (j .ledger)) unmarked next-room fewer,
+    )
 
     pub program-fresh : Fresh z plain k b s (takeCopy b s) (applyAll z d (logStores z (head (s .free)) 0 k (s .next) b 0 bytes))
     unfolding takeCopy taken moved entry
@@ -116,10 +128,10 @@ module _ (z : Sizes) (B : Limits z) (plain : List ℕ) (b k : ℕ) (hb : b < z .
     e = applyAll z d (makeRoom z s d .stores)
 
     roomy : Roomy s (makeRoom z s d .state)
-    roomy = room-made z (B .p-low) plain s d j (B .room)
+    roomy = room-made z B plain s d j
 
     room : Good z plain (makeRoom z s d) d
-    room = room-good z (B .p-low) plain s d j
+    room = room-good z B plain s d j
 
     next-there : makeRoom z s d .state .next < 4294967296
     next-there = rw (roomy .next-same) next-room

@@ -20,16 +20,18 @@ use Rattle.model.specs.State.{State, moved, entry, cachesOf, without, ba
 use Rattle.model.specs.Operations.{touch, dropOldest, withoutOldest, setMark}
 use Rattle.model.proofs.Views.{Lay, SafeAt, copied, uncopied, lay-base}
 use Rattle.model.proofs.Limits.{Limits, on-chip}
-use Rattle.model.proofs.Safe.{view, holdsOf, plainAt, Safe, Sound, Along, Absorbed}
+use Rattle.model.proofs.Safe.{view, holdsOf, plainAt, Safe, Cuts, Absorbed}
 use Rattle.model.proofs.Frames.{length-bucket}
 use Rattle.model.proofs.Show.{isDirty-same, same-refl}
-use Rattle.model.proofs.Units.{Allowed, dirty-copy, Written, units-along, units-written}
+use Rattle.model.proofs.Units.{Allowed, dirty-copy, fits-at, Written, units-along, units-written}
 use Rattle.model.proofs.Buckets.{holds-parts}
 use Rattle.model.proofs.Queues.{Maps, maps-here, absent-without, without-here, without-absent, cachesOf-one, distinct-rest, times-without, length-without, maps-times, without-maps}
 use Rattle.model.proofs.QueuesGrown.{times-grown, maps-older, maps-newest, caches-map, holds-map}
 use Rattle.model.proofs.QueuesShown.{reads-without, reads-grown}
 use Rattle.model.proofs.QueuesErased.{gone, gone-disk}
-use Rattle.model.proofs.Inside.{Inside, lens, sound, one-place, gc-below, swept-safe, read-same, read-back, who-holds}
+use Rattle.model.proofs.Findable.{Findable}
+use Rattle.model.proofs.FindableRuns.{Each, Harmless, units-harmless, ledger-runs, along-cuts}
+use Rattle.model.proofs.Inside.{Inside, lens, one-place, gc-below, swept-safe, read-same, read-back, who-holds}
 use Rattle.model.proofs.Steps.{Good, nothing-good}
 use Rattle.model.proofs.StepsDrop.{same-inside, requeued, read-dropped}
 use Rattle.model.proofs.Marks.{keeps-remarked, marked-held, remarked-other, writes-remarked, marks-kept}
@@ -52,14 +54,19 @@ module _ (z : Sizes) (B : Limits z) (plain : List ℕ) (s : State) (d : Device) 
   -- ---- units
 
   module _ (b : ℕ) (hb : b < z .b) (bytes : List ℕ) (len : length bytes ≡ bucketSize z) (allowed : Allowed z B plain (s .gc) (gc-below z plain s d j) b hb bytes len d) where
-    pub units-run : Along z (Sound z plain) d (unitStores z b bytes)
-    units-run = units-along z B plain (s .gc) (gc-below z plain s d j) b hb bytes len d (j .chip) (j .ready) allowed
+    harmless : Each (Harmless z d) (unitStores z b bytes)
+    harmless = units-harmless z d b bytes (fits-at z B plain (s .gc) (gc-below z plain s d j) b hb bytes len)
+
+    pub units-cuts : Cuts z (Findable z plain) d (unitStores z b bytes)
+    units-cuts = along-cuts z (B .p-low) plain (unitStores z b bytes) d (s .next) (j .next-high) harmless (j .ledger)
+        (units-along z B plain (s .gc) (gc-below z plain s d j) b hb bytes len d (j .chip) (j .ready) allowed)
 
     pub units-are : Written z B plain (s .gc) (gc-below z plain s d j) b hb bytes len d (applyAll z d (unitStores z b bytes))
     units-are = units-written z B plain (s .gc) (gc-below z plain s d j) b hb bytes len d (j .chip) (j .ready) allowed
 
     pub units-inside : Inside z plain s (applyAll z d (unitStores z b bytes))
-    units-inside = same-inside z (B .p-low) plain s d (applyAll z d (unitStores z b bytes)) j (units-are .chip) (units-are .ready) (units-are .still)
+    units-inside = same-inside z (B .p-low) plain s d (applyAll z d (unitStores z b bytes)) j (units-are .chip)
+        (ledger-runs z (B .p-low) (unitStores z b bytes) d (s .next) (lens z plain s d j) harmless (j .ledger)) (units-are .ready) (units-are .still)
 
   -- ---- the least recent read bucket
 
@@ -104,14 +111,14 @@ module _ (z : Sizes) (B : Limits z) (plain : List ℕ) (s : State) (d : Device) 
         stores = if isDirty z d r then unitStores z b (bucketBytes z d r) else [];
         state = moved s (without b (s .reads)) (map (remarked b false) (s .writes)) (s .gc ++ cachesOf b (s .reads)) (s .free);
       }) d
-      go (inr q) = rw q (sound z plain s d j, read-leaves z B plain s d j b r m (inl q))
+      go (inr q) = rw q (tt, read-leaves z B plain s d j b r m (inl q))
       go (inl q) =
           let a : Allowed z B plain (s .gc) (gc-below z plain s d j) b hb (bucketBytes z d r) len d =
           dirty-copy r (λ t. omega (arith, one-place z plain s d j r, maps-times (s .reads) b r m)) held q (j .reads .newest-copy b r m) in
           let e = applyAll z d (unitStores z b (bucketBytes z d r)) in
           let w = units-are z B plain s d j b hb (bucketBytes z d r) len a in
           rw q (
-            units-run z B plain s d j b hb (bucketBytes z d r) len a,
+            units-cuts z B plain s d j b hb (bucketBytes z d r) len a,
             read-leaves z B plain s e (units-inside z B plain s d j b hb (bucketBytes z d r) len a) b r m (inr (w .disk-is ∙ sym (w .still r .bytes-same))),
           )
 

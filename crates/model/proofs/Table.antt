@@ -25,7 +25,7 @@ text (Prim.Native.String._∷_ c cs) = code c ∷ text cs
 
 -- S 4, P 4
 abbrev pub small : Sizes
-small = record { s = 4; p = 4; c = 3; b = 1; r = 1; w = 1 }
+small = record { s = 4; p = 4; c = 5; b = 1; r = 1; w = 1 }
 
 -- S 4, P 2: a Write bucket whose first page is the log (1, 4, 1111)
 abbrev pub pair : Sizes
@@ -55,7 +55,7 @@ queuing p q = entry 0 0 p ∷ entry 1 1 q ∷ []
 
 pub record Table : Type 0 where
   pub K1 : output (text "01FFFF000402000800020101\n02FFFF000000000001\n02FFFF000100000001\n03FFFF00000000AA\n03FFFF00010000CC\n03FFFF00000001BB\n06FFFF\n02FFFF000000000002\n")
-      ≡ text "000008\n00000200\n00000200\n000001\n000003\n000003\n000002\n000004AABB\n"
+      ≡ text "000008\n00000200\n00000200\n000001\n000003\n000003\n000004\n000006AABB\n"
   pub K2 : firstFailed (placeTests small 0 15 1) ≡ 0
   pub K3 : firstFailed (placeTests small 0 15 2) ≡ 7
   pub K4 : firstFailed (placeTests small 0 16 1) ≡ 7

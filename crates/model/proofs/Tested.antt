@@ -10,6 +10,7 @@ use Rattle.lists.proofs.Tests.{every-at, and-left, and-right}
 use Rattle.model.specs.declared.Sizes.{Sizes}
 use Rattle.model.specs.Sizes.{Device, bucketSize, body}
 use Rattle.model.specs.Image.{used, backOf, complete}
+use Rattle.model.specs.Ledger.{wellFormed}
 use Rattle.model.specs.State.{State, readAgrees, writeAgrees, stateFits}
 use Rattle.model.specs.Steps.{merged}
 use Rattle.model.proofs.Limits.{Limits, limits-of}
@@ -34,7 +35,8 @@ module _ (s : State) (d : Device) (pass : Passed s d) where
   lens = lengths-of z d (pass .lent-whole)
 
   pub formed : Formed (s .sizes) d
-  formed = formed-of z d (pass .well-formed)
+  unfolding wellFormed
+  formed = formed-of z d (every-at _ (pass .well-formed) 0)
 
   pub in-place : (c : ℕ) → 1 ≤ places s c → c < body (s .sizes)
   unfolding stateFits

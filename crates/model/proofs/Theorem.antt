@@ -9,7 +9,7 @@ use Rattle.model.specs.State.{State}
 use Rattle.model.specs.Calls.{Call, formatCall, readCall, writeCall, eraseCall, drainCall, recoverCall, call}
 use Rattle.model.specs.Promise.{MayStand, Claim, Always, AlwaysHolds, Promised, NothingLost}
 use Rattle.model.specs.Companions.{Trusted, Drained, NeverDistrusted, DrainedDiskIsPlain}
-use Rattle.model.proofs.Safe.{Inv, Pays}
+use Rattle.model.proofs.Invariant.{Inv, Pays}
 use Rattle.model.proofs.Calling.{erase-pays, read-gives}
 use Rattle.model.proofs.Format.{formatted-inv}
 use Rattle.model.proofs.Read.{read-pays}

@@ -14,7 +14,8 @@ use Rattle.model.proofs.Safe.{Safe, Chip, Sound, Along, Ready}
 use Rattle.model.proofs.Limits.{Limits}
 use Rattle.model.proofs.Prefix.{applyAll-append, along-start, along-append}
 use Rattle.model.proofs.Show.{Same, same-refl, same-trans}
-use Rattle.model.proofs.Units.{Allowed, Written, units-along, units-written}
+use Rattle.model.proofs.Units.{Allowed, fits-at, Written, units-along, units-written}
+use Rattle.model.proofs.FindableRuns.{Each, each-append, Harmless, units-harmless}
 
 module _ (z : Sizes) (B : Limits z) (plain : List ℕ) (gs : List ℕ) (gs-in : (x : ℕ) → 1 ≤ times x gs → x < z .c) (bytes : ℕ → List ℕ) where
   abbrev unitsOf : List ℕ → List Store
@@ -53,6 +54,14 @@ module _ (z : Sizes) (B : Limits z) (plain : List ℕ) (gs : List ℕ) (gs-in : 
       is x t (no u) (no v) = absurd (omega (arith, times-cons x b l, times-other x b v))
 
   module _ (d₀ : Device) where
+    pub runs-harmless : (l : List ℕ) → ((b : ℕ) → 1 ≤ times b l → MayWrite d₀ b) → (d : Device) → Each (Harmless z d) (unitsOf l)
+    unfolding concatMap
+    runs-harmless [] may d = tt
+    runs-harmless (b ∷ l) may d =
+        let m = may b (omega (arith, times-cons b b l, times-self b)) in
+        each-append (Harmless z d) (unitStores z b (bytes b)) (unitsOf l) (units-harmless z d b (bytes b) (fits-at z B plain gs gs-in b (m .place) (bytes b) (m .size)))
+        (runs-harmless l (λ x t. may x (omega (arith, times-cons x b l))) d)
+
     pub units-run : (l : List ℕ) → ((b : ℕ) → 1 ≤ times b l → MayWrite d₀ b) → (d : Device) → ((c : ℕ) → Same z d₀ d c) → Chip z d → Ready z plain gs d
         → Along z (Sound z plain) d (unitsOf l) × Ran l d (applyAll z d (unitsOf l))
     unfolding concatMap applyAll

@@ -22,7 +22,7 @@ use Rattle.model.specs.Operations.{lastEpoch, goesFirst, leastOf, victim
 use Rattle.model.specs.Calls.{writeCall, tests, refusal, planOf, isDone}
 use Rattle.model.specs.Promise.{feed, diskPlace}
 use Rattle.model.proofs.Limits.{Limits, limits-of}
-use Rattle.model.proofs.Safe.{Inv, Owed, Pays}
+use Rattle.model.proofs.Invariant.{Inv, Owed, Pays}
 use Rattle.model.proofs.Queues.{Maps, maps-here, holds-there, absent-without, still-absent, cachesOf-one, length-without}
 use Rattle.model.proofs.Inside.{Inside}
 use Rattle.model.proofs.InsideLive.{inside, outside}
@@ -110,8 +110,8 @@ module _ (z : Sizes) (B : Limits z) (plain : List ℕ) (s : State) (d : Device) 
         let way = way-made in
         let t = makeWay z b s d .state in
         let e = applyAll z d (makeWay z b s d .stores) in
-        let room = room-made z (B .p-low) plain t e (way .0 .1) (B .room) in
-        let good = room-good z (B .p-low) plain t e (way .0 .1) in
+        let room = room-made z B plain t e (way .0 .1) in
+        let good = room-good z B plain t e (way .0 .1) in
         let after = splice plain (diskPlace z b off) bytes in
         then-moves z plain after (makeWay z b) (makeRoom z then startLog z b off bytes) s d (j .sizes-are) (way .0)
         (then-moves z plain after (makeRoom z) (startLog z b off bytes) t e (way .0 .1 .sizes-are) good
@@ -146,5 +146,6 @@ write-pays z b off bytes s d plain fit i r =
     own : limits (s .sizes) ≡ true → Inv (s .sizes) s d plain → Owed (s .sizes) (writeCall b off bytes) s d plain
     own f i' =
         let pass = write-passed s d b off bytes r in
-        let m = write-moves (s .sizes) (limits-of (s .sizes) f) plain s d (inside (s .sizes) s d plain i' (pass .0 .runs)) (pass .2) b off bytes (pass .1) in
-        record { cuts = m .cuts; whole = λ counts. outside (s .sizes) _ _ _ (m .whole) counts }
+        let B = limits-of (s .sizes) f in
+        let m = write-moves (s .sizes) B plain s d (inside (s .sizes) s d plain i' (pass .0 .runs)) (pass .2) b off bytes (pass .1) in
+        record { cuts = m .cuts; whole = λ counts. outside (s .sizes) (B .p-low) _ _ _ (m .whole) counts }

@@ -1,11 +1,11 @@
 -- An accepted write: its priority, the count and the halving keep the invariant. And plans whose last store moves the plain disk on.
-use Prim.Native.Nat.{ℕ, zero, suc, _+_, _/_, _≤_, _<_}
+use Prim.Native.Nat.{ℕ, _+_, _/_, _≤_}
 use mathlib.Core.Path.{_≡_, refl, sym, ap, _∙_, subst}
 use mathlib.Core.Logic.{_⊎_, inl, inr}
 use mathlib.Core.Bool.{Bool, true, false, true≢false}
-use mathlib.Core.List.{List, [], _∷_, _++_, map}
+use mathlib.Core.List.{List, _++_, map}
 use native.Mathlib.Omega.{arith}
-use lib.ListN.{length, take, length-map}
+use lib.ListN.{length, length-map}
 use lib.Dec.{leb}
 use borrow.Author.Tests.{leb-true, leb-false, le-leb, eqb-true}
 use Rattle.lists.specs.Lists.{if_then_else_, times}
@@ -13,14 +13,15 @@ use Rattle.lists.proofs.Tests.{true-or-false}
 use Rattle.model.specs.declared.Sizes.{Sizes}
 use Rattle.model.specs.declared.Entry.{Entry}
 use Rattle.model.specs.Sizes.{Device}
-use Rattle.model.specs.Stores.{Store, apply, applyAll}
+use Rattle.model.specs.Stores.{applyAll}
 use Rattle.model.specs.State.{State, entry, isOf, caches, moved, isMarked, remarked, withPriority}
 use Rattle.model.specs.Steps.{Plan, Step, _then_}
 use Rattle.model.specs.Operations.{halved, prioritised, accept, counted, recorded}
-use Rattle.model.proofs.Safe.{Along, Sound}
-use Rattle.model.proofs.Prefix.{applyAll-append}
+use Rattle.model.proofs.Safe.{Cuts}
+use Rattle.model.proofs.Prefix.{applyAll-append, cuts-append}
 use Rattle.model.proofs.QueuesGrown.{Keeps, caches-map}
 use Rattle.model.proofs.QueuesShown.{priorityFits, Writes, writes-map}
+use Rattle.model.proofs.Findable.{Findable}
 use Rattle.model.proofs.Inside.{Inside}
 use Rattle.model.proofs.Steps.{Good}
 use Rattle.model.proofs.Marks.{marked-map, prioritised-remarked, marks-fewer}
@@ -28,22 +29,15 @@ use Rattle.model.proofs.Marks.{marked-map, prioritised-remarked, marks-
 -- ---- a plan that moves the plain disk on
 
 pub record Moves (z : Sizes) (plain plain' : List ℕ) (p : Plan) (d : Device) : Type 0 where
-  pub cuts : (n : ℕ) → n < length (p .stores) → Sound z plain (applyAll z d (take n (p .stores)))
+  pub cuts : Cuts z (Findable z plain) d (p .stores)
   pub whole : Inside z plain' (p .state) (applyAll z d (p .stores))
-
-cuts-behind : (z : Sizes) (Q : Device → Type 0) (d : Device) (ss ts : List Store) → Along z Q d ss → ((n : ℕ) → n < length ts → Q (applyAll z (applyAll z d ss) (take n ts)))
-    → (n : ℕ) → n < length (ss ++ ts) → Q (applyAll z d (take n (ss ++ ts)))
-unfolding applyAll
-cuts-behind z Q d [] ts a c n h = c n h
-cuts-behind z Q d (s ∷ ss) ts a c zero h = a .0
-cuts-behind z Q d (s ∷ ss) ts a c (suc n) h = cuts-behind z Q (apply z d s) ss ts (a .1) c n (omega arith)
 
 pub then-moves : (z : Sizes) (plain plain' : List ℕ) (f g : Step) (s : State) (d : Device) → s .sizes ≡ z → Good z plain (f s d) d
     → Moves z plain plain' (g (f s d .state) (applyAll z d (f s d .stores))) (applyAll z d (f s d .stores)) → Moves z plain plain' ((f then g) s d) d
 unfolding _then_
 then-moves z plain plain' f g s d e a m =
     subst (λ (y : Sizes). Moves z plain plain' (record { stores = f s d .stores ++ g (f s d .state) (applyAll y d (f s d .stores)) .stores; state = g (f s d .state) (applyAll y d (f s d .stores)) .state }) d) (sym e) (record {
-      cuts = cuts-behind z (Sound z plain) d (f s d .stores) (g (f s d .state) (applyAll z d (f s d .stores)) .stores) (a .0) (m .cuts);
+      cuts = cuts-append z (Findable z plain) d (f s d .stores) (g (f s d .state) (applyAll z d (f s d .stores)) .stores) (a .0) (m .cuts);
       whole = subst (λ (x : Device). Inside z plain' (g (f s d .state) (applyAll z d (f s d .stores)) .state) x)
           (sym (applyAll-append z d (f s d .stores) (g (f s d .state) (applyAll z d (f s d .stores)) .stores))) (m .whole);
     })
@@ -118,6 +112,7 @@ module _ (z : Sizes) where
     sizes-are = j .sizes-are;
     plain-length = j .plain-length;
     chip = j .chip;
+    ledger = j .ledger;
     ready = j .ready;
     once = λ c. ap (λ (l : List ℕ). times c (caches (s .reads)) + times c l + times c (s .gc) + times c (s .free)) (like .same-caches) ∙ j .once c;
     reads = j .reads;

@@ -19,7 +19,7 @@ use Rattle.model.specs.Stores.{tagOf}
 use Rattle.model.specs.Spare.{writeKind}
 use Rattle.model.specs.Image.{epochOf, backOf, isWrite, blanks}
 use Rattle.model.specs.State.{State, moved, entry, holds, cacheOf, caches, isMarked, remarked}
-use Rattle.model.specs.Steps.{taken}
+use Rattle.model.specs.Steps.{taken, logStores}
 use Rattle.model.specs.Operations.{takeWrite, appendLog, startLog}
 use Rattle.model.specs.Promise.{diskPlace}
 use Rattle.model.proofs.Limits.{Limits, pages-fit}
@@ -35,7 +35,9 @@ use Rattle.model.proofs.BucketKinds.{write-used}
 use Rattle.model.proofs.Queues.{Maps, maps-times}
 use Rattle.model.proofs.QueuesGrown.{times-grown, caches-map}
 use Rattle.model.proofs.QueuesShown.{priorityFits, Reads, Writes, reads-kept, writes-kept, writes-grown}
-use Rattle.model.proofs.Inside.{Inside, in-chip, one-place, gc-below}
+use Rattle.model.proofs.LedgerKept.{Ledger, apart-own}
+use Rattle.model.proofs.FindableRuns.{log-harmless, next-new, ledger-later, ledger-runs, findable-cuts}
+use Rattle.model.proofs.Inside.{Inside, lens, in-chip, one-place, gc-below}
 use Rattle.model.proofs.Calling.{Range}
 use Rattle.model.proofs.WriteAccept.{Moves, accept-inside, accept-cleared}
 use Rattle.model.proofs.Plain.{plain-others}
@@ -114,12 +116,13 @@ module _ (z : Sizes) (B : Limits z) (plain : List ℕ) (s : State) (d : Device) 
           newest b' x mx y i (no p) (yes r) (inl n) ne = inl (rw r (run .alone b' i (λ eq. p (sym (mx .is) ∙ (ap (λ (v : ℕ). cacheOf v (s .writes)) eq ∙ m .is)))))
 
       -- its mark, if it had one, is gone
-      appended-inside : Inside z (splice plain (diskPlace z b off) bytes) (moved s (s .reads) (map (remarked b false) (s .writes)) (s .gc) (s .free)) f
+      appended-inside : Ledger z f (s .next) → Inside z (splice plain (diskPlace z b off) bytes) (moved s (s .reads) (map (remarked b false) (s .writes)) (s .gc) (s .free)) f
       unfolding moved
-      appended-inside = record {
+      appended-inside ledger = record {
         sizes-are = j .sizes-are;
         plain-length = after-length;
         chip = run .chip;
+        ledger = ledger;
         ready = run .ready;
         once = λ x. ap (λ (l : List ℕ). times x (caches (s .reads)) + times x l + times x (s .gc) + times x (s .free)) (caches-map (remarked b false) (keeps-remarked b false) (s .writes)) ∙ j .once x;
         marks = marks-logged w (epochOf z d w) f run (λ x h. not-w x (omega arith)) (map (remarked b false) (s .writes)) (λ b' h. marked-cleared b (s .writes) b' h);
@@ -170,9 +173,13 @@ module _ (z : Sizes) (B : Limits z) (plain : List ℕ) (s : State) (d : Device) 
       let e = epochOf z d w in
       let first = z .p - blanks z d w in
       let done = log-done z B w first e b off bytes (append-log w m fit) d (j .chip) (append-place w m) plain room (s .gc) (gc-not-w w m) (rest-blank w m) (j .writes .newest-logs b w m) (j .ready) in
+      let stores = logStores z w first writeKind e b off bytes in
+      let harmless = log-harmless z B w first writeKind e b off bytes (append-log w m fit) d (apart-own z d (j .ledger .apart) w (write-used z d w (j .writes .logs b w m .0))) in
       record {
-        cuts = log-cuts z B w first e b off bytes (append-log w m fit) d (j .chip) (append-place w m) plain room (s .gc) (gc-not-w w m) (rest-blank w m) (j .writes .newest-logs b w m) (j .ready);
-        whole = rw (← accept-cleared b (blanks z d w - pagesFor z (length bytes)) s) (accept-inside z after b (blanks z d w - pagesFor z (length bytes)) (omega (arith, blanks-most z d w)) _ _ (appended-inside w m _ done));
+        cuts = findable-cuts z (B .p-low) plain stores d (s .next) (j .next-high) harmless (j .ledger)
+            (log-cuts z B w first e b off bytes (append-log w m fit) d (j .chip) (append-place w m) plain room (s .gc) (gc-not-w w m) (rest-blank w m) (j .writes .newest-logs b w m) (j .ready));
+        whole = rw (← accept-cleared b (blanks z d w - pagesFor z (length bytes)) s) (accept-inside z after b (blanks z d w - pagesFor z (length bytes)) (omega (arith, blanks-most z d w)) _ _ (appended-inside w m _ done
+            (ledger-runs z (B .p-low) stores d (s .next) (lens z plain s d j) harmless (j .ledger))));
       }
 
   -- ---- in a bucket just taken
@@ -230,12 +237,13 @@ module _ (z : Sizes) (B : Limits z) (plain : List ℕ) (s : State) (d : Device) 
           others b' x i h (yes q) = inr (rw q (run .alone b' i (λ eq. true≢false (sym h ∙ (ap (λ (v : ℕ). holds v (s .writes)) eq ∙ absent-yet)))))
           others b' x i h (no ne) = inl (run .still x ne)
 
-      started-inside : Inside z (splice plain (diskPlace z b off) bytes) (takeWrite b s) f
+      started-inside : Ledger z f (s .next) → Inside z (splice plain (diskPlace z b off) bytes) (takeWrite b s) f
       unfolding takeWrite taken moved entry
-      started-inside = record {
+      started-inside ledger = record {
         sizes-are = j .sizes-are;
         plain-length = after-length;
         chip = run .chip;
+        ledger = ledger-later z f (s .next) (s .next + 1) (omega arith) ledger;
         ready = run .ready;
         once = λ x. omega (arith, count x, times-grown (entry b c 0) (s .writes) x) ∙ j .once x;
         reads = reads-logged c (s .next) f run (λ x h. not-c x (omega arith));
@@ -262,7 +270,11 @@ module _ (z : Sizes) (B : Limits z) (plain : List ℕ) (s : State) (d : Device) 
     unfolding startLog
     start-moves d₀ =
         let done = log-done z B c 0 (s .next) b off bytes start-log d (j .chip) (fresh refl (j .next-above)) plain room (s .gc) gc-not-c (λ k h hk. j .free-blank c c-free k hk) newest (j .ready) in
+        let stores = logStores z c 0 writeKind (s .next) b off bytes in
+        let harmless = log-harmless z B c 0 writeKind (s .next) b off bytes start-log d (next-new z d (s .next) (j .ledger) c) in
         record {
-          cuts = log-cuts z B c 0 (s .next) b off bytes start-log d (j .chip) (fresh refl (j .next-above)) plain room (s .gc) gc-not-c (λ k h hk. j .free-blank c c-free k hk) newest (j .ready);
-          whole = accept-inside z after b (z .p - pagesFor z (length bytes)) (omega arith) (takeWrite b s) _ (started-inside _ done);
+          cuts = findable-cuts z (B .p-low) plain stores d (s .next) (j .next-high) harmless (j .ledger)
+              (log-cuts z B c 0 (s .next) b off bytes start-log d (j .chip) (fresh refl (j .next-above)) plain room (s .gc) gc-not-c (λ k h hk. j .free-blank c c-free k hk) newest (j .ready));
+          whole = accept-inside z after b (z .p - pagesFor z (length bytes)) (omega arith) (takeWrite b s) _ (started-inside _ done
+              (ledger-runs z (B .p-low) stores d (s .next) (lens z plain s d j) harmless (j .ledger)));
         }

@@ -11,7 +11,7 @@ use Rattle.model.specs.declared.Answer.the-variants.{Done, Idle, Cut, Re
 use Rattle.model.specs.Tests.{Test, firstFailed}
 use Rattle.model.specs.Sizes.{Device, limits, lengths, bucketSize, flashSize, pageIndex}
 use Rattle.model.specs.Stores.{applyAll}
-use Rattle.model.specs.Image.{wellFormed}
+use Rattle.model.specs.Ledger.{wellFormed, recoverable}
 use Rattle.model.specs.State.{State, stopped, stateFits}
 use Rattle.model.specs.Steps.{Plan, eraseStep, merged}
 use Rattle.model.specs.Operations.{lastEpoch, write, read, drain, format}
@@ -29,6 +29,12 @@ isDone Done = true
 isDone Idle = false
 isDone Cut = false
 isDone (Refused n) = false
+
+unfoldable pub isCut : Answer → Bool
+isCut Done = false
+isCut Idle = false
+isCut Cut = true
+isCut (Refused n) = false
 
 -- "A read's length is that of its lent buffer, a write's that of its data."
 pub data Call : Type 0 where
@@ -70,7 +76,7 @@ tests (readCall b off buffer) s d = runningTests s d ++ placeTests (s .sizes) b 
 tests (writeCall b off bytes) s d = runningTests s d ++ (placeTests (s .sizes) b off (length bytes) ++ ((8, leb (s .next) lastEpoch) ∷ []))
 tests eraseCall s d = runningTests s d
 tests drainCall s d = runningTests s d
-tests (recoverCall z) s d = lentTests z d ++ ((4, wellFormed z d) ∷ [])
+tests (recoverCall z) s d = lentTests z d ++ ((4, recoverable z d) ∷ [])
 
 unfoldable pub refusal : Call → State → Device → ℕ
 refusal k s d = firstFailed (tests k s d)

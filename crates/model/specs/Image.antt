@@ -9,13 +9,14 @@ use Rattle.model.specs.Sizes.{Device, bucketSize, body, pagesFor}
 use Rattle.model.specs.Stores.{tagOf, bucketBytes}
 use Rattle.model.specs.Spare.{blank, writeKind, dirtyKind, kind, ordinal, pages, epoch, back, offset, extent, zeros}
 
--- "continues the page before it with the same fields and an ordinal one higher"
+-- "continues the page before it with the same fields and an ordinal one higher", below the count
 unfoldable pub continues : List ℕ → List ℕ → Bool
 continues before tag = every
     (eqb (ordinal tag) (ordinal before + 1)
     ∷ eqb (pages tag) (pages before)
     ∷ eqb (offset tag) (offset before)
-    ∷ eqb (extent tag) (extent before) ∷ [])
+    ∷ eqb (extent tag) (extent before)
+    ∷ ltb (ordinal tag) (pages tag) ∷ [])
 
 -- "blank pages come only at the end; non-blank pages share state, epoch and back-end bucket"; "no second ordinal 0" but in Write buckets
 unfoldable pub follows : List ℕ → List ℕ → Bool
@@ -40,7 +41,6 @@ module _ (z : Sizes) where
       ∷ zeros tag
       ∷ eqb (pages tag) (pagesFor z (extent tag))
       ∷ leb (offset tag + extent tag) (bucketSize z)
-      ∷ ltb (ordinal tag) (pages tag)
       ∷ (eqb (kind tag) writeKind || spansBucket tag) ∷ [])
 
   -- the rules for page k of the cache bucket c; a bucket's first page has ordinal 0
@@ -63,9 +63,9 @@ module _ (z : Sizes) where
   unfoldable pub epochOf : Device → ℕ → ℕ
   epochOf d c = if used d c then epoch (headTag d c) else 0
 
-  -- number 4: "An image is well formed, made by the page rules, when .. no two buckets share an epoch."
-  unfoldable pub wellFormed : Device → Bool
-  wellFormed d = allBelow (body z) (bucketFits d) && distinct (map (epochOf d) (keep (used d) (below (body z))))
+  -- the buckets outside the ledger: "made by the page rules", and "no two buckets share an epoch"
+  unfoldable pub bodyFits : Device → Bool
+  bodyFits d = allBelow (body z) (bucketFits d) && distinct (map (epochOf d) (keep (used d) (below (body z))))
 
   -- ---- what a bucket is
 

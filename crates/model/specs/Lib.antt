@@ -3,6 +3,7 @@ pub mod Sizes
 pub mod Stores
 pub mod Spare
 pub mod Image
+pub mod Ledger
 pub mod State
 pub mod Steps
 pub mod Operations

@@ -186,6 +186,6 @@ drain z s d = record {
 
 -- ---- format
 
--- "erase all buckets in rising order; free queue in rising order; next epoch 1"
+-- "erase all buckets in rising order; free queue in rising order; next epoch 1"; "Format erases directly", and all C
 unfoldable pub format : Sizes → Plan
 format z = record { stores = map erase (below (z .c)); state = started z [] [] [] (below (body z)) 1 }

@@ -1,16 +1,17 @@
 -- Demand 3: the list of calls, its plain disk, and what is promised of the list as a whole.
-use Prim.Native.Nat.{ℕ, _+_, _*_}
+use Prim.Native.Nat.{ℕ, zero, suc, _+_, _*_}
 use mathlib.Core.Path.{_≡_}
 use mathlib.Core.Bool.{Bool, true, false}
 use mathlib.Core.List.{List, [], _∷_}
-use lib.ListN.{length}
-use Rattle.lists.specs.Lists.{if_then_else_, splice, part}
+use lib.ListN.{length, drop}
+use Rattle.lists.specs.Lists.{if_then_else_, splice, part, ff}
 use Rattle.model.specs.declared.Sizes.{Sizes}
 use Rattle.model.specs.declared.Answer.{Answer}
 use Rattle.model.specs.declared.Answer.the-variants.{Done, Idle, Cut, Refused}
 use Rattle.model.specs.Sizes.{Device, lengths, bucketSize}
+use Rattle.model.specs.Stores.{Store, program, erase, unit, apply}
 use Rattle.model.specs.State.{State}
-use Rattle.model.specs.Calls.{Call, formatCall, readCall, writeCall, eraseCall, drainCall, recoverCall, Outcome, isDone, call}
+use Rattle.model.specs.Calls.{Call, formatCall, readCall, writeCall, eraseCall, drainCall, recoverCall, Outcome, isDone, isCut, planOf, call}
 
 -- ---- the list
 
@@ -19,11 +20,16 @@ pub data Lent : Type 0 where
   whole : Lent
   other : Device → Lent
 
--- one call of the list, with its allowance
+-- what a cut makes of the store that it stops: of an erase, the pages that are blank
+pub record Tear : Type 0 where
+  pub blanked : ℕ → Bool
+
+-- one call of the list, with its allowance, and the tear if it is cut
 pub record Item : Type 0 where
   pub allowance : ℕ
   pub request : Call
   pub lent : Lent
+  pub tear : Tear
 
 -- "Its calls are read, write, erase step, drain and recover, with any fields and allowances; recover has the sizes of that format."
 unfoldable pub MayStand : Sizes → Call → Type 0
@@ -44,9 +50,31 @@ unfoldable pub lentOf : Lent → Device → Device
 lentOf whole d = d
 lentOf (other part) d = part
 
-unfoldable pub leftOf : Lent → Device → Outcome → Device
-leftOf whole d o = o .device
-leftOf (other part) d o = d
+unfoldable pub leftOf : Lent → (before after : Device) → Device
+leftOf whole d e = e
+leftOf (other part) d e = d
+
+-- ---- an erase that stops halfway
+
+-- a page "blank (data and spare FF)"
+unfoldable pub blankPage : Sizes → Device → (c k : ℕ) → Device
+blankPage z d c k = apply z d (program c k (ff (z .s)) (ff 16))
+
+-- "each page of that bucket may be as it was or blank": the first n pages
+unfoldable pub halfErased : Sizes → (blanked : ℕ → Bool) → Device → (c n : ℕ) → Device
+halfErased z t d c zero = d
+halfErased z t d c (suc k) = if t k then blankPage z (halfErased z t d c k) c k else halfErased z t d c k
+
+-- chip and disk with the first of these stores half done; only an erase can be
+unfoldable pub torn : Sizes → Tear → Device → List Store → Device
+torn z t d [] = d
+torn z t d (program c k bytes tag ∷ ss) = d
+torn z t d (erase c ∷ ss) = halfErased z (t .blanked) d c (z .p)
+torn z t d (unit u bytes ∷ ss) = d
+
+-- "where a Cut call's next store was an erase, each page of that bucket may be as it was or blank before the next call"
+unfoldable pub afterCall : Sizes → Item → State → Device → Outcome → Device
+afterCall z x s d o = if isCut (o .answer) then torn z (x .tear) (o .device) (drop (o .stores) (planOf (x .request) s d .stores)) else o .device
 
 -- ---- the plain disk
 
@@ -96,14 +124,14 @@ Claim = Sizes → List ℕ → Call → Lent → Outcome → Type 0
 
 -- `shows` is the state that a call sees in what it is given, `next` what it hands back for the next call: a State, or a struct that shows one
 module _ {S : Type 0} (shows : S → State) (next : S → Outcome → S) (claim : Claim) where
-  -- the list as a whole: each call is given the state, chip and disk that the last one left
+  -- the list as a whole: each call is given the state, chip and disk that the last one left, and its cut
   unfoldable pub Throughout : Sizes → List Item → S → Device → List ℕ → Type 0
   Throughout z [] s d plain = Unit {0}
   Throughout z (x ∷ xs) s d plain =
       let o = call (x .allowance) (x .request) (shows s) (lentOf (x .lent) d) in
       MayStand z (x .request) → MayBeLent z (x .lent)
       → claim z plain (x .request) (x .lent) o
-      × Throughout z xs (next s o) (leftOf (x .lent) d o) (feed z (x .request) (o .answer) plain)
+      × Throughout z xs (next s o) (leftOf (x .lent) d (afterCall z x (shows s) (lentOf (x .lent) d) o)) (feed z (x .request) (o .answer) plain)
 
   -- "The list starts from the state, chip and disk that a Done format left, whatever bytes the disk had."
   unfoldable pub Always : Type 0

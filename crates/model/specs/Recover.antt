@@ -8,8 +8,9 @@ use Rattle.lists.specs.Lists.{if_then_else_, below, allBelow, head, empty, any,
 use Rattle.model.specs.declared.Sizes.{Sizes}
 use Rattle.model.specs.declared.Entry.{Entry}
 use Rattle.model.specs.Sizes.{Device, body}
-use Rattle.model.specs.Stores.{Store, bucketBytes, diskBytes, unitStores}
+use Rattle.model.specs.Stores.{Store, erase, applyAll, bucketBytes, diskBytes, unitStores}
 use Rattle.model.specs.Image.{used, epochOf, backOf, isWrite, isCopy, isDirty, complete, blanks, merge}
+use Rattle.model.specs.Ledger.{named}
 use Rattle.model.specs.State.{started, entry, topEpoch}
 use Rattle.model.specs.Steps.{Plan}
 
@@ -125,11 +126,23 @@ module _ (z : Sizes) (d : Device) where
   rescueStores b = unitStores z b (rescued b)
 
   -- "These disk writes go in rising back-end number." "GC: superseded and incomplete copies, then dropped copies, then dropped Write buckets, each
-  -- by epoch. Blank buckets are free, rising. Kept copies by epoch, newest most recent; the write queue by epoch; priority is blank pages; next
-  -- epoch is the highest plus 1, or 1."
-  unfoldable pub recover : Plan
-  recover = record {
+  -- by epoch. Blank buckets are free, rising. Kept copies by epoch, newest most recent; the write queue by epoch; priority is blank pages"
+  unfoldable pub rebuilt : (next : ℕ) → Plan
+  rebuilt n = record {
     stores = concatMap rescueStores (keep isRescued (below (z .b)));
     state = started z (map keptRead (byEpoch keptCopies)) (map keptWrite (byEpoch keptWrites))
-        (byEpoch (buckets isOldCopy) ++ (byEpoch (buckets isDroppedCopy) ++ byEpoch (buckets isDroppedWrite))) (buckets isFree) (topEpoch z d + 1);
+        (byEpoch (buckets isOldCopy) ++ (byEpoch (buckets isDroppedCopy) ++ byEpoch (buckets isDroppedWrite))) (buckets isFree) n;
   }
+
+-- ---- the erase ledger
+
+-- "Recovery first erases each named bucket once, rising, then both ledger buckets, without entries."
+unfoldable pub swept : Sizes → Device → List ℕ
+swept z d = keep (named z d) (below (body z)) ++ (body z ∷ (body z + 1) ∷ [])
+
+-- then the rest, on the chip as it is then; "next epoch is the highest plus 1, or 1", with buckets and entries "as it found them"
+unfoldable pub recover : Sizes → Device → Plan
+recover z d =
+    let erases = map erase (swept z d) in
+    let p = rebuilt z (applyAll z d erases) (topEpoch z d + 1) in
+    record { stores = erases ++ p .stores; state = p .state }

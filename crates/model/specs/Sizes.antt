@@ -13,7 +13,7 @@ pub record Device : Type 0 where
   pub spare : List ℕ
   pub disk : List ℕ
 
--- "Limits: S 4 to 1,024, P 1 to 64, C 3 to 256, B 1 to 65,535, R and W 1 to 64, R + W + 1 ≤ C."
+-- "Limits: S 4 to 1,024, P 1 to 64, C 3 to 256, B 1 to 65,535, R and W 1 to 64"; "so R + W + 3 ≤ C"
 unfoldable pub limits : Sizes → Bool
 limits z = every
     (within 4 1024 (z .s)
@@ -22,15 +22,15 @@ limits z = every
     ∷ within 1 65535 (z .b)
     ∷ within 1 64 (z .r)
     ∷ within 1 64 (z .w)
-    ∷ leb (z .r + z .w + 1) (z .c) ∷ [])
+    ∷ leb (z .r + z .w + 3) (z .c) ∷ [])
 
 -- the data bytes of a bucket: P × S
 unfoldable pub bucketSize : Sizes → ℕ
 bucketSize z = z .p * z .s
 
--- the cache buckets that stand in queues: all of the chip
+-- "Set aside the last two cache buckets as an erase ledger": the others stand in queues, and the ledger's lower bucket has the number behind them
 unfoldable pub body : Sizes → ℕ
-body z = z .c
+body z = z .c - 2
 
 -- "a lent length is its own of C × P × S, C × P × 16, B × P × S"
 unfoldable pub flashSize : Sizes → ℕ

@@ -27,6 +27,10 @@ writeKind = 2
 abbrev pub dirtyKind : ℕ
 dirtyKind = 3
 
+-- "spare state 4": an entry of the erase ledger
+abbrev pub ledgerKind : ℕ
+ledgerKind = 4
+
 unfoldable pub kind : List ℕ → ℕ
 kind tag = getD tag 0 0
 
@@ -61,3 +65,7 @@ tagBytes k o n e b f l = k ∷ o ∷ n ∷ 0
     ∷ e / 16777216 % 256 ∷ e / 65536 % 256 ∷ e / 256 % 256 ∷ e % 256
     ∷ b / 256 % 256 ∷ b % 256 ∷ 0 ∷ 0
     ∷ f / 256 % 256 ∷ f % 256 ∷ (l - 1) / 256 % 256 ∷ (l - 1) % 256 ∷ []
+
+-- "spare state 4, ordinal 0, count 1, the bucket's epoch in the epoch field (0 if it has none), its number in the back-end field, all else zero"
+unfoldable pub entryTag : (epoch bucket : ℕ) → List ℕ
+entryTag e x = tagBytes ledgerKind 0 1 e x 0 1

@@ -1,5 +1,5 @@
 -- The engine's state, its queues, and number 5.
-use Prim.Native.Nat.{ℕ}
+use Prim.Native.Nat.{ℕ, _*_, max}
 use mathlib.Core.Bool.{Bool, true, false, not, _&&_, _||_}
 use mathlib.Core.List.{List, [], _∷_, _++_, map}
 use lib.ListN.{length}
@@ -8,7 +8,9 @@ use Rattle.lists.specs.Lists.{if_then_else_, every, times, allBelow, maxBelow, 
 use Rattle.model.specs.declared.Sizes.{Sizes}
 use Rattle.model.specs.declared.Entry.{Entry}
 use Rattle.model.specs.Sizes.{Device, body}
+use Rattle.model.specs.Spare.{blank, epoch}
 use Rattle.model.specs.Image.{complete, isWrite, backOf, blanks, epochOf}
+use Rattle.model.specs.Ledger.{ledgerTag, oneInUse}
 
 -- "The state holds the sizes, a running mark, read and write queues, GC and free queues, priorities, the count of accepted writes and the next epoch."
 -- The first of the read queue is the least recent, the first of each other queue the first in.
@@ -120,7 +122,7 @@ isBelow n c = ltb c n
 unfoldable pub onceIn : List ℕ → ℕ → Bool
 onceIn l c = eqb (times c l) 1
 
--- "queues hold each cache bucket once": so their lengths add up to C, and no number is above
+-- "queues hold each cache bucket once", and "Ledger buckets stand in no queue": so their lengths add up to n, and no number is above
 unfoldable pub eachOnce : ℕ → List ℕ → Bool
 eachOnce n l = every (eqb (length l) n ∷ all (isBelow n) l ∷ allBelow n (onceIn l) ∷ [])
 
@@ -145,13 +147,18 @@ module _ (z : Sizes) (d : Device) where
 unfoldable pub markFits : (reads : List Entry) → Entry → Bool
 markFits reads e = not (e .marked) || holds (e .back) reads
 
--- the largest epoch of a bucket on the chip, or 0
+-- the epoch of the entry on page i of the ledger, or 0
+unfoldable pub entryEpoch : Sizes → Device → ℕ → ℕ
+entryEpoch z d i = if blank (ledgerTag z d i) then 0 else epoch (ledgerTag z d i)
+
+-- the largest epoch of a bucket on the chip, or 0; "Entries count towards the next epoch"
 unfoldable pub topEpoch : Sizes → Device → ℕ
-topEpoch z d = maxBelow (body z) (epochOf z d)
+topEpoch z d = max (maxBelow (body z) (epochOf z d)) (maxBelow (2 * z .p) (entryEpoch z d))
 
 -- number 5: none of "queues do not hold each cache bucket once, a queue is too long, maps a back-end bucket twice or disagrees with
 -- spare fields, a queued read bucket is incomplete, a free bucket has a non-blank page, a priority is above P, the write count above 15,
--- or next epoch is 0, is not above all present or exceeds 4,294,967,296", no "kept count differs", and no "mark set without a read bucket"
+-- or next epoch is 0, is not above all present or exceeds 4,294,967,296", no "kept count differs", no "mark set without a read bucket", and not "two
+-- in use" of the ledger's buckets
 unfoldable pub stateFits : State → Device → Bool
 stateFits s d = every
     (eachOnce (body (s .sizes)) (queued s)
@@ -166,4 +173,5 @@ stateFits s d = every
     ∷ leb 1 (s .next)
     ∷ ltb (topEpoch (s .sizes) d) (s .next)
     ∷ leb (s .next) 4294967296
-    ∷ all (markFits (s .reads)) (s .writes) ∷ [])
+    ∷ all (markFits (s .reads)) (s .writes)
+    ∷ oneInUse (s .sizes) d ∷ [])

@@ -1,14 +1,16 @@
 -- Plans, and the steps that operations share: merged bytes, Erase step, Allocate, a whole copy, Evict.
 -- A step sees the chip and the disk as the steps before it leave them.
-use Prim.Native.Nat.{ℕ, _+_}
+use Prim.Native.Nat.{ℕ, _+_, _-_}
 use mathlib.Core.List.{List, [], _∷_, _++_}
 use lib.ListN.{length, drop}
-use Rattle.lists.specs.Lists.{if_then_else_, row, head, empty}
+use lib.Dec.{leb}
+use Rattle.lists.specs.Lists.{if_then_else_, row, head, empty, ff}
 use Rattle.model.specs.declared.Sizes.{Sizes}
 use Rattle.model.specs.Sizes.{Device, pagesFor}
 use Rattle.model.specs.Stores.{Store, program, erase, applyAll, bucketBytes, diskBytes, pageBytes, unitStores}
-use Rattle.model.specs.Spare.{dirtyKind, tagBytes}
-use Rattle.model.specs.Image.{merge}
+use Rattle.model.specs.Spare.{dirtyKind, tagBytes, entryTag}
+use Rattle.model.specs.Image.{epochOf, blanks, merge}
+use Rattle.model.specs.Ledger.{inUse, otherOf}
 use Rattle.model.specs.State.{State, moved, numbered, entry, holds, cacheOf, cachesOf, isMarked, without}
 
 -- the stores of an operation, in order, and the state once all are made
@@ -70,10 +72,24 @@ module _ (z : Sizes) where
   unfoldable pub merged : State → Device → ℕ → List ℕ
   merged s d b = if holds b (s .writes) then merge z d (cacheOf b (s .writes)) (baseBytes s d b) else baseBytes s d b
 
+  -- "one ledger page is programmed": page k of the ledger bucket l, "data FF"
+  unfoldable pub entryStore : Device → (l k x : ℕ) → Store
+  entryStore d l k x = program l k (ff (z .s)) (entryTag (epochOf z d x) x)
+
+  -- "A full ledger bucket hands over to the other, and is erased after the first entry there and before the named erase."
+  unfoldable pub entryStores : Device → ℕ → List Store
+  entryStores d x =
+      let l = inUse z d in
+      if leb 1 (blanks z d l) then entryStore d l (z .p - blanks z d l) x ∷ [] else entryStore d (otherOf z l) 0 x ∷ erase l ∷ []
+
+  -- "Before any other bucket is erased, one ledger page is programmed"
+  unfoldable pub notedErase : Device → ℕ → List Store
+  notedErase d x = entryStores d x ++ (erase x ∷ [])
+
   -- "Erase step: erase the GC head, put it last in the free queue. Idle, with no store, if and only if the GC queue is empty."
   unfoldable pub eraseStep : Step
   eraseStep s d =
-      if empty (s .gc) then nothing s d else record { stores = erase (head (s .gc)) ∷ []; state = freed s }
+      if empty (s .gc) then nothing s d else record { stores = notedErase d (head (s .gc)); state = freed s }
 
   -- "Allocate: if the free queue is empty, do the erase step first." Then the bucket is the free head, and its epoch the next one.
   unfoldable pub makeRoom : Step

@@ -7,6 +7,8 @@ pub const WRITE_KIND: u8 = 2;
 
 pub const DIRTY_KIND: u8 = 3;
 
+pub const LEDGER_KIND: u8 = 4;
+
 // The last next epoch at which a write is taken; behind it fewer than two are left.
 pub const LAST_EPOCH: u64 = 4294967294;
 

@@ -39,7 +39,7 @@ module _ (s : Struct) (new : State) where
 module _ (n : ℕ) (k : Call) (s : Struct) (v : State) (d : Device) where
   -- what the allowance allowed, from what is left of it
   pub left-within : (p : Plan) {r : Run} → r ≡ runAll (sizesOf k v) (p .stores) (fresh d n) → r .meter .left ≤ n
-  left-within p e = rw e (run-left (sizesOf k v) (p .stores) d n)
+  left-within p e = rw e (run-left (sizesOf k v) (p .stores) (fresh d n))
 
   run-handed : (p : Plan) (r : Run)
       → handedBack (r .device) (if r .meter .cut then lentBuffer k else readBuffer k v d) (finished (r .meter) n (doneAnswer k v) s (p .state))
@@ -72,7 +72,7 @@ module _ (n : ℕ) (k : Call) (s : Struct) (v : State) (d : Device) where
   module _ (step : Step) {p : Progress} (e : p ≡ after (sizesOf k v) step v (fresh d n)) where
     pub step-left : p .run .meter .left ≤ n
     unfolding after
-    step-left = rw e (run-left (sizesOf k v) (step v d .stores) d n)
+    step-left = rw e (run-left (sizesOf k v) (step v d .stores) (fresh d n))
 
     pub step-handed : lentBuffer k ≡ [] → readBuffer k v d ≡ []
         → handedBack (p .run .device) [] (finished (p .run .meter) n (doneAnswer k v) s (p .state)) ≡ handed s (carryOut n k v d (step v d))

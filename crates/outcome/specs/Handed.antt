@@ -36,11 +36,15 @@ handed s o = record {
   buffer = o .buffer;
 }
 
--- after a run with an allowance of n, by what is left of it
+-- after a cut run with an allowance of n, by what is left of it
+abbrev pub cutShort : Meter → ℕ → Struct → OutcomeStruct
+cutShort m n old = record { answer = Cut; stores = n - m .left; state = halted old }
+
+-- after any run
 unfoldable pub finished : Meter → ℕ → Answer → Struct → State → OutcomeStruct
 finished m n full old new =
     if m .cut
-    then record { answer = Cut; stores = n - m .left; state = halted old }
+    then cutShort m n old
     else record { answer = full; stores = n - m .left; state = stateOf new }
 
 abbrev pub turned : ℕ → Struct → OutcomeStruct

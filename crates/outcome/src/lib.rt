@@ -5,7 +5,7 @@ use state::State;
 ghost use mathlib.Core.Path.{_≡_};
 ghost use Prim.Native.Nat.{_≤_};
 ghost use Rattle.state.specs.View.{placesOf};
-ghost use Rattle.outcome.specs.Handed.{finished, turned};
+ghost use Rattle.outcome.specs.Handed.{cutShort, finished, turned};
 
 pub struct Outcome {
     pub answer: Answer,
@@ -13,20 +13,28 @@ pub struct Outcome {
     pub state: State,
 }
 
-// Once all stores were asked for: `full` with the new state, or Cut with the old one, not running.
+// A run that was cut leaves the old state, not running.
+pub fn cut_short(m: Meter, allowance: usize, old: State) -> Outcome
+    requires { ⌜ m .left ≤ allowance ⌝ }
+    ensures { λ r. ⌜ r ≡ cutShort m allowance old ⌝ }
+{
+    let state = old.stop();
+    Outcome {
+        answer: Answer::Cut,
+        stores: allowance - m.left,
+        state,
+    }
+}
+
+// Once all stores were asked for: `full` with the new state, or Cut.
 pub fn finish(m: Meter, allowance: usize, full: Answer, old: State, new: State) -> Outcome
     requires { ⌜ m .left ≤ allowance ⌝ }
     ensures { λ r. ⌜ r ≡ finished m allowance full old (placesOf new) ⌝ }
 {
-    let stores = allowance - m.left;
     if m.cut {
-        let state = old.stop();
-        return Outcome {
-            answer: Answer::Cut,
-            stores,
-            state,
-        };
+        return cut_short(m, allowance, old);
     }
+    let stores = allowance - m.left;
     let state = new.cleared();
     Outcome {
         answer: full,

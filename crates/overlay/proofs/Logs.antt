@@ -25,7 +25,7 @@ use Rattle.spare.specs.declared.Fields.{Fields}
 use Rattle.spare.specs.declared.Seen.the-variants.{Blank, Programmed}
 use Rattle.spare.proofs.Looked.{seen-blank, seen-programmed}
 use Rattle.image.specs.Chip.{spareOnly}
-use Rattle.rules.proofs.SameSpare.{same-well-formed}
+use Rattle.rules.proofs.SameSpare.{same-body-fits}
 use Rattle.overlay.specs.Window.{chip, Readable, LogPlace, logPart}
 use Rattle.overlay.proofs.SameChip.{same-merge-to}
 
@@ -36,7 +36,7 @@ in-flash z flash c a e h g = let q : suc c * bucketSize z ≤ z .c * bucketSize 
 
 module _ {z : Sizes} {flash spare : List ℕ} (readable : Readable z flash spare) {c : ℕ} (bucket : c < body z) where
   formed : (disk : List ℕ) → Formed z (device flash spare disk)
-  formed disk = formed-of z (device flash spare disk) (sym (same-well-formed z (device flash spare disk)) ∙ readable .well-formed)
+  formed disk = formed-of z (device flash spare disk) (sym (same-body-fits z (device flash spare disk)) ∙ readable .well-formed)
 
   fit : (k : ℕ) → k < z .p → pageFits z (chip flash spare) c k ≡ true
   fit k page = formed _ .pages-fit c k bucket page

@@ -7,7 +7,7 @@ use lib.ListN.{length}
 use Rattle.lists.specs.Lists.{part}
 use Rattle.model.specs.declared.Sizes.{Sizes}
 use Rattle.model.specs.Sizes.{Device, bucketSize, flashSize, spareSize}
-use Rattle.model.specs.Image.{wellFormed}
+use Rattle.model.specs.Image.{bodyFits}
 use Rattle.model.proofs.Limits.{Limits}
 use Rattle.geometry.specs.Geometry.{device}
 use Rattle.spare.specs.declared.Fields.{Fields}
@@ -21,14 +21,14 @@ chip flash spare = device flash spare []
 pub record Tagged (z : Sizes) (spare : List ℕ) : Type 0 where
   pub limits : Limits z
   pub spare-length : length spare ≡ spareSize z
-  pub well-formed : wellFormed z (spareOnly spare) ≡ true
+  pub well-formed : bodyFits z (spareOnly spare) ≡ true
 
 -- a chip that they let pass
 pub record Readable (z : Sizes) (flash spare : List ℕ) : Type 0 where
   pub limits : Limits z
   pub flash-length : length flash ≡ flashSize z
   pub spare-length : length spare ≡ spareSize z
-  pub well-formed : wellFormed z (spareOnly spare) ≡ true
+  pub well-formed : bodyFits z (spareOnly spare) ≡ true
 
 -- a window that shows one whole from an index on comes to show another
 abbrev pub Turns : (from : ℕ) (whole result before after : List ℕ) → Type 0

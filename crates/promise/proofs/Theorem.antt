@@ -6,7 +6,7 @@ use Rattle.model.specs.declared.Sizes.{Sizes}
 use Rattle.model.specs.Sizes.{Device}
 use Rattle.model.specs.State.{State}
 use Rattle.model.specs.Calls.{formatCall, Outcome, call}
-use Rattle.model.specs.Promise.{Item, lentOf, leftOf, feed, Claim, Throughout, Always, AlwaysHolds, Promised, NothingLost}
+use Rattle.model.specs.Promise.{Item, lentOf, leftOf, afterCall, feed, Claim, Throughout, Always, AlwaysHolds, Promised, NothingLost}
 use Rattle.model.proofs.Theorem.{nothing-lost}
 use Rattle.state.specs.declared.State.{State as Struct}
 use Rattle.state.specs.View.{viewOf}
@@ -24,7 +24,7 @@ module _ (claim : Claim) where
   of-structs z (x ∷ xs) s d plain h = λ may lent.
       let here = h may lent in
       let o = call (x .allowance) (x .request) (viewOf s) (lentOf (x .lent) d) in
-      let left = leftOf (x .lent) d o in
+      let left = leftOf (x .lent) d (afterCall z x (viewOf s) (lentOf (x .lent) d) o) in
       let fed = feed z (x .request) (o .answer) plain in
       let shown = handed-view (x .allowance) (x .request) s (lentOf (x .lent) d) in
       (here .0, of-structs z xs (handedOn s o) left fed (subst (λ (t : State). OfStates z xs t left fed) (sym shown) (here .1)))

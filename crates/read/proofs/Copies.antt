@@ -9,7 +9,7 @@ use Rattle.model.specs.declared.Sizes.{Sizes}
 use Rattle.model.specs.Sizes.{Device}
 use Rattle.model.specs.Spare.{readKind, dirtyKind}
 use Rattle.model.specs.State.{State, holds, cachesOf}
-use Rattle.model.specs.Image.{wellFormed}
+use Rattle.model.specs.Image.{bodyFits}
 use Rattle.model.specs.Steps.{Step, _then_, move, nothing, merged, copy}
 use Rattle.model.specs.Operations.{dropOldest, setMark, makePlace, readCopy}
 use Rattle.lists.specs.Lists.{if_then_else_}
@@ -87,7 +87,7 @@ module _ (s : State) (o : Drops s) (low : s .next ≤ 4294967294) (b : ℕ) wher
       pub left-single : Single (p .state)
       left-single = left-stays .single
 
-      pub left-sources : wellFormed (s .sizes) (spareOnly (r .device .spare)) ≡ true → b < s .sizes .b → Lent (s .sizes) (p .run .device .flash) (p .run .device .spare) (p .run .device .disk)
+      pub left-sources : bodyFits (s .sizes) (spareOnly (r .device .spare)) ≡ true → b < s .sizes .b → Lent (s .sizes) (p .run .device .flash) (p .run .device .spare) (p .run .device .disk)
           → Sources (p .state) b (p .run .device .flash) (p .run .device .spare) (p .run .device .disk)
       left-sources formed back lent =
           sources-of (left-placed .copies .ready .orderly) (rw (left-placed .sizes, left-stays .spare) formed) (rw (left-placed .sizes) back) (rw (left-placed .sizes) lent)

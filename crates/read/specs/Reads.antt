@@ -4,7 +4,7 @@ use mathlib.Core.Path.{_≡_}
 use mathlib.Core.Bool.{true}
 use mathlib.Core.List.{List}
 use Rattle.model.specs.Sizes.{Device, bucketSize}
-use Rattle.model.specs.Image.{wellFormed}
+use Rattle.model.specs.Image.{bodyFits}
 use Rattle.model.specs.State.{State}
 use Rattle.model.specs.Steps.{merged}
 use Rattle.model.specs.Operations.{readCopy}
@@ -20,7 +20,7 @@ use Rattle.outcome.specs.Handed.{Handed, handed}
 pub record Reads (s : State) (b off n : ℕ) (spare : List ℕ) : Type 0 where
   pub drops : Drops s
   pub single : Single s
-  pub well-formed : wellFormed (s .sizes) (spareOnly spare) ≡ true
+  pub well-formed : bodyFits (s .sizes) (spareOnly spare) ≡ true
   pub back : b < s .sizes .b
   pub range : off + n ≤ bucketSize (s .sizes)
 

@@ -1,2 +1,4 @@
 pub mod Epochs
+pub mod Swept
 pub mod Queues
+pub mod Stages

@@ -18,8 +18,8 @@ use Rattle.model.specs.declared.Sizes.{Sizes}
 use Rattle.model.specs.Sizes.{Device, body}
 use Rattle.model.specs.Stores.{tagOf}
 use Rattle.model.specs.Image.{headTag, used, epochOf, backOf, isWrite, isCopy, complete, pageBlank, blanks}
-use Rattle.model.specs.State.{isBelow, queued, topEpoch}
-use Rattle.model.specs.Recover.{buckets, byEpoch, isNewer, amongNewest, newest, isWriteOf, isCopyOf, givesWay, isChosen, isNoOther, isOnly, keptWrites, isDroppedWrite, flushed, isRemaining, keptCopies, isDroppedCopy, isOldCopy, isFree, keptRead, keptWrite, recover}
+use Rattle.model.specs.State.{isBelow, queued}
+use Rattle.model.specs.Recover.{buckets, byEpoch, isNewer, amongNewest, newest, isWriteOf, isCopyOf, givesWay, isChosen, isNoOther, isOnly, keptWrites, isDroppedWrite, flushed, isRemaining, keptCopies, isDroppedCopy, isOldCopy, isFree, keptRead, keptWrite, rebuilt}
 use Rattle.model.proofs.Limits.{Limits}
 use Rattle.model.proofs.Formed.{Formed}
 use Rattle.model.proofs.BucketKinds.{complete-copy, copy-used, write-used}
@@ -31,7 +31,7 @@ use Rattle.rescue.specs.Sources.{Recoverable}
 use Rattle.classes.specs.Columns.{nowhere, inOrder, named, column, isNamed}
 use Rattle.classes.proofs.Columns.{below-nowhere, is-named}
 use Rattle.classes.proofs.Orders.{filtered, in-order, order-short}
-use Rattle.recover.specs.Kept.{picked, differing}
+use Rattle.recover.specs.Kept.{picked, differing, retired}
 
 pub chip-of : {z : Sizes} {flash spare disk : List ℕ} → Recoverable z flash spare disk → Chip z spare
 chip-of sound = record { limits = sound .limits; spare-length = sound .lent .spare-length }
@@ -156,7 +156,7 @@ module _ (z : Sizes) (d : Device) where
 
   -- the order has a place in an array
   pub order-fits : Limits z → {order : List ℕ} → order ≡ inOrder z d → length order ≤ 256
-  order-fits l e = omega (arith, ap length e, order-short z d, l .body-high, l .c-high)
+  order-fits l e = omega (arith, ap length e, order-short z d, l .ledger-in, l .c-high)
 
   pub column-length : {order beside : List ℕ} (t : ℕ → Bool) → order ≡ inOrder z d → beside ≡ column z d t → length beside ≡ length order
   column-length t e k = ap length k ∙ length-map (inOrder z d) (named z d t) ∙ sym (ap length e)
@@ -179,20 +179,20 @@ module _ (z : Sizes) (d : Device) where
   droppedWrites = byEpoch z d (buckets z d (isDroppedWrite z d))
 
   -- all buckets below body stand in the queues, each once
-  total : length (queued (recover z d .state)) ≡ body z
-  total = length-once (body z) (queued (recover z d .state)) (λ c. places-queued (recover z d .state) c ∙ once-recovered z d c)
+  total : length (queued (rebuilt z d 0 .state)) ≡ body z
+  total = length-once (body z) (queued (rebuilt z d 0 .state)) (λ c. places-queued (rebuilt z d 0 .state) c ∙ once-recovered z d 0 c)
 
   pub gc-fits : length oldCopies + (length droppedCopies + length droppedWrites) ≤ body z
-  unfolding queued recover
+  unfolding queued rebuilt
   gc-fits = let t = total in omega (arith, simp length-append at t)
 
-  pub gc-is : oldCopies ++ (droppedCopies ++ droppedWrites) ≡ recover z d .state .gc
-  unfolding recover
+  pub gc-is : oldCopies ++ (droppedCopies ++ droppedWrites) ≡ retired z d
+  unfolding retired
   gc-is = refl
 
-  pub same-state : recover z (spareOnly (d .spare)) .state ≡ recover z d .state
-  unfolding recover keptRead keptWrite isFree isOldCopy isDroppedCopy keptCopies isRemaining flushed isDroppedWrite keptWrites isOnly isNoOther isChosen givesWay isCopyOf isWriteOf newest amongNewest isNewer byEpoch buckets topEpoch blanks pageBlank complete isCopy isWrite backOf epochOf used headTag tagOf
-  same-state = refl
+  pub same-state : (next : ℕ) → rebuilt z (spareOnly (d .spare)) next .state ≡ rebuilt z d next .state
+  unfolding rebuilt keptRead keptWrite isFree isOldCopy isDroppedCopy keptCopies isRemaining flushed isDroppedWrite keptWrites isOnly isNoOther isChosen givesWay isCopyOf isWriteOf newest amongNewest isNewer byEpoch buckets blanks pageBlank complete isCopy isWrite backOf epochOf used headTag tagOf
+  same-state next = refl
 
 module _ (z : Sizes) (d : Device) (limits : Limits z) (formed : Formed z d) where
   pub picked-old : picked (column z d (isOldCopy z d)) (inOrder z d) ≡ oldCopies z d
@@ -249,9 +249,9 @@ module _ (z : Sizes) (d : Device) (limits : Limits z) (formed : Formed z d) wher
 
   -- they have places in the struct's queues
   pub few-copies : length (byEpoch z d (keptCopies z d)) ≤ 64
-  unfolding recover
-  few-copies = omega (arith, length-map (byEpoch z d (keptCopies z d)) (keptRead z d), few-reads-recovered z d formed, limits .r-high)
+  unfolding rebuilt
+  few-copies = omega (arith, length-map (byEpoch z d (keptCopies z d)) (keptRead z d), few-reads-recovered z d formed 0, limits .r-high)
 
   pub few-writes : length (byEpoch z d (keptWrites z d)) ≤ 64
-  unfolding recover
-  few-writes = omega (arith, length-map (byEpoch z d (keptWrites z d)) (keptWrite z d), few-writes-recovered z d formed, limits .w-high)
+  unfolding rebuilt
+  few-writes = omega (arith, length-map (byEpoch z d (keptWrites z d)) (keptWrite z d), few-writes-recovered z d formed 0, limits .w-high)

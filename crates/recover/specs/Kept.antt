@@ -1,13 +1,13 @@
 -- What the recovered queues keep.
 use Prim.Native.Nat.{ℕ}
 use mathlib.Core.Bool.{Bool, true, false}
-use mathlib.Core.List.{List, [], _∷_}
+use mathlib.Core.List.{List, [], _∷_, _++_}
 use lib.Dec.{eqb}
 use Rattle.lists.specs.Lists.{if_then_else_}
 use Rattle.model.specs.declared.Sizes.{Sizes}
 use Rattle.model.specs.declared.Entry.{Entry}
 use Rattle.model.specs.Sizes.{Device}
-use Rattle.model.specs.Recover.{keptRead, keptWrite}
+use Rattle.model.specs.Recover.{buckets, byEpoch, isOldCopy, isDroppedCopy, isDroppedWrite, keptRead, keptWrite}
 use Rattle.classes.specs.Columns.{isNamed}
 
 -- a bucket's entry in the write queue, where blank pages are counted, or in the read queue
@@ -27,3 +27,8 @@ differing [] n l = []
 differing (b ∷ m) [] l = []
 differing (b ∷ m) (e ∷ n) [] = []
 differing (b ∷ m) (e ∷ n) (c ∷ l) = if eqb b e then differing m n l else c ∷ differing m n l
+
+-- the recovered GC queue
+unfoldable pub retired : Sizes → Device → List ℕ
+retired z d =
+    byEpoch z d (buckets z d (isOldCopy z d)) ++ (byEpoch z d (buckets z d (isDroppedCopy z d)) ++ byEpoch z d (buckets z d (isDroppedWrite z d)))

@@ -1,4 +1,4 @@
-// Recover: the state from the chip's spare area alone, and the units of what the queues have no place for.
+// Recover: the ledger's erases; then the state from the chip's spare area alone, and the units of what the queues have no place for.
 use fifo::Fifo;
 use meter::Meter;
 use model::Answer;
@@ -14,9 +14,9 @@ ghost use Prim.Native.Nat.{_+_, _≤_, _<_};
 ghost use lib.ListN.{length};
 ghost use Rattle.lists.specs.Lists.{all};
 ghost use Rattle.model.specs.Sizes.{body};
-ghost use Rattle.model.specs.Image.{isWrite, wellFormed};
+ghost use Rattle.model.specs.Image.{isWrite, bodyFits};
 ghost use Rattle.model.specs.State.{isBelow};
-ghost use Rattle.model.specs.Recover.{isChosen, isDroppedWrite, isDroppedCopy, recover};
+ghost use Rattle.model.specs.Recover.{isChosen, isDroppedWrite, isDroppedCopy, rebuilt, recover};
 ghost use Rattle.model.specs.Calls.{recoverCall, carryOut, call};
 ghost use Rattle.geometry.specs.Geometry.{device};
 ghost use Rattle.fifo.specs.View.{listOf};
@@ -25,8 +25,17 @@ ghost use Rattle.state.specs.View.{placesOf, viewOf};
 ghost use Rattle.image.specs.Chip.{Chip, spareOnly};
 ghost use Rattle.classes.specs.Columns.{inOrder, column, Columns};
 ghost use Rattle.rescue.specs.Sources.{Recoverable};
+ghost use Rattle.checks.proofs.Opens.{Found};
 ghost use Rattle.outcome.specs.Handed.{handedBack, handed};
-ghost use Rattle.recover.specs.Kept.{entryOf, picked, differing};
+ghost use Rattle.recover.specs.Kept.{entryOf, picked, differing, retired};
+ghost use Rattle.recover.specs.Stages.{rebuilding};
+
+// Recovery behind its erases: the whole allowance, what is left of it, and the next epoch.
+struct Begun {
+    allowance: usize,
+    meter: Meter,
+    next: u64,
+}
 
 // The bucket's entry in a queue. The write queue counts its blank pages.
 fn entry_of(z: Sizes, c: u8, counted: bool, spare: &[u8]) -> Entry
@@ -101,11 +110,11 @@ fn retired(
     spare: &[u8],
 ) -> Fifo
     requires { ⌜ Chip z (now spare) ⌝ }
-    requires { ⌜ wellFormed z (spareOnly (now spare)) ≡ true ⌝ }
+    requires { ⌜ bodyFits z (spareOnly (now spare)) ≡ true ⌝ }
     requires { ⌜ now order ≡ inOrder z (spareOnly (now spare)) ⌝ }
     requires { ⌜ now «dropped_writes» ≡ column z (spareOnly (now spare)) (isDroppedWrite z (spareOnly (now spare))) ⌝ }
     requires { ⌜ (now copies ≡ column z (spareOnly (now spare)) (isChosen z (spareOnly (now spare)))) × (now «dropped_copies» ≡ column z (spareOnly (now spare)) (isDroppedCopy z (spareOnly (now spare)))) ⌝ }
-    ensures { λ r. ⌜ listOf r ≡ recover z (spareOnly (now (spare .entry))) .state .gc ⌝ }
+    ensures { λ r. ⌜ listOf r ≡ retired z (spareOnly (now (spare .entry))) ⌝ }
 {
     let n = order.len();
     let mut old = classes::blank_column();
@@ -118,6 +127,7 @@ fn retired(
 // The state that a finished recovery leaves.
 fn recovered(
     z: Sizes,
+    next: u64,
     order: &[u8],
     writes: &[u16],
     dropped_writes: &[u16],
@@ -126,15 +136,14 @@ fn recovered(
     spare: &[u8],
 ) -> State
     requires { ⌜ Chip z (now spare) ⌝ }
-    requires { ⌜ wellFormed z (spareOnly (now spare)) ≡ true ⌝ }
+    requires { ⌜ bodyFits z (spareOnly (now spare)) ≡ true ⌝ }
     requires { ⌜ Columns z (spareOnly (now spare)) (now order) (now writes) (now «dropped_writes») (now copies) (now «dropped_copies») ⌝ }
-    ensures { λ r. ⌜ placesOf r ≡ recover z (spareOnly (now (spare .entry))) .state ⌝ }
+    ensures { λ r. ⌜ placesOf r ≡ rebuilt z (spareOnly (now (spare .entry))) next .state ⌝ }
 {
     let reads = kept_queue(z, order, copies, dropped_copies, false, spare);
     let queued = kept_queue(z, order, writes, dropped_writes, true, spare);
     let gc = retired(z, order, dropped_writes, copies, dropped_copies, spare);
     let free = classes::buckets(z, false, spare);
-    let top = fits::top_epoch(z, spare);
     State {
         sizes: z,
         running: true,
@@ -143,15 +152,15 @@ fn recovered(
         gc,
         free,
         accepted: 0,
-        next: top + 1,
+        next,
     }
 }
 
-// The state is that of the spare area before the first store.
-fn recover_by(
+// The state is that of the spare area before the units.
+fn rebuild_by(
     s: State,
     z: Sizes,
-    allowance: usize,
+    begun: Begun,
     order: &[u8],
     writes: &[u16],
     dropped_writes: &[u16],
@@ -162,11 +171,13 @@ fn recover_by(
     disk: &mut [u8],
 ) -> Outcome
     requires { ⌜ Recoverable z (now flash) (now spare) (now disk) ⌝ }
+    requires { ⌜ begun .meter .left ≤ begun .allowance ⌝ }
     requires { ⌜ Columns z (spareOnly (now spare)) (now order) (now writes) (now «dropped_writes») (now copies) (now «dropped_copies») ⌝ }
-    ensures { λ r. ⌜ handedBack (device (now (flash .exit)) (now (spare .exit)) (now (disk .exit))) [] r ≡ handed s (carryOut allowance (recoverCall z) (viewOf s) (device (now (flash .entry)) (now (spare .entry)) (now (disk .entry))) (recover z (device (now (flash .entry)) (now (spare .entry)) (now (disk .entry))))) ⌝ }
+    ensures { λ r. ⌜ handedBack (device (now (flash .exit)) (now (spare .exit)) (now (disk .exit))) [] r ≡ rebuilding z begun s (device (now (flash .entry)) (now (spare .entry)) (now (disk .entry))) ⌝ }
 {
     let new = recovered(
         z,
+        begun.next,
         order,
         writes,
         dropped_writes,
@@ -174,9 +185,8 @@ fn recover_by(
         dropped_copies,
         spare,
     );
-    let whole = Meter::whole(allowance);
     let after = rescue::rescue(
-        whole,
+        begun.meter,
         z,
         order,
         writes,
@@ -187,14 +197,14 @@ fn recover_by(
         spare,
         disk,
     );
-    outcome::finish(after, allowance, Answer::Done, s, new)
+    outcome::finish(after, begun.allowance, Answer::Done, s, new)
 }
 
 // Which copies are kept and which are dropped, beside the Write buckets.
-fn recover_copies(
+fn rebuild_copies(
     s: State,
     z: Sizes,
-    allowance: usize,
+    begun: Begun,
     order: &[u8],
     writes: &[u16],
     dropped_writes: &[u16],
@@ -203,9 +213,10 @@ fn recover_copies(
     disk: &mut [u8],
 ) -> Outcome
     requires { ⌜ Recoverable z (now flash) (now spare) (now disk) ⌝ }
+    requires { ⌜ begun .meter .left ≤ begun .allowance ⌝ }
     requires { ⌜ now order ≡ inOrder z (spareOnly (now spare)) ⌝ }
     requires { ⌜ (now writes ≡ column z (spareOnly (now spare)) (isWrite z (spareOnly (now spare)))) × (now «dropped_writes» ≡ column z (spareOnly (now spare)) (isDroppedWrite z (spareOnly (now spare)))) ⌝ }
-    ensures { λ r. ⌜ handedBack (device (now (flash .exit)) (now (spare .exit)) (now (disk .exit))) [] r ≡ handed s (carryOut allowance (recoverCall z) (viewOf s) (device (now (flash .entry)) (now (spare .entry)) (now (disk .entry))) (recover z (device (now (flash .entry)) (now (spare .entry)) (now (disk .entry))))) ⌝ }
+    ensures { λ r. ⌜ handedBack (device (now (flash .exit)) (now (spare .exit)) (now (disk .exit))) [] r ≡ rebuilding z begun s (device (now (flash .entry)) (now (spare .entry)) (now (disk .entry))) ⌝ }
 {
     let n = order.len();
     let mut copies = classes::blank_column();
@@ -218,10 +229,10 @@ fn recover_copies(
         &mut copies[..n],
         &mut dropped[..n],
     );
-    recover_by(
+    rebuild_by(
         s,
         z,
-        allowance,
+        begun,
         order,
         writes,
         dropped_writes,
@@ -234,27 +245,28 @@ fn recover_copies(
 }
 
 // Which Write buckets are kept and which are dropped.
-fn recover_writes(
+fn rebuild_writes(
     s: State,
     z: Sizes,
-    allowance: usize,
+    begun: Begun,
     order: &[u8],
     flash: &mut [u8],
     spare: &mut [u8],
     disk: &mut [u8],
 ) -> Outcome
     requires { ⌜ Recoverable z (now flash) (now spare) (now disk) ⌝ }
+    requires { ⌜ begun .meter .left ≤ begun .allowance ⌝ }
     requires { ⌜ now order ≡ inOrder z (spareOnly (now spare)) ⌝ }
-    ensures { λ r. ⌜ handedBack (device (now (flash .exit)) (now (spare .exit)) (now (disk .exit))) [] r ≡ handed s (carryOut allowance (recoverCall z) (viewOf s) (device (now (flash .entry)) (now (spare .entry)) (now (disk .entry))) (recover z (device (now (flash .entry)) (now (spare .entry)) (now (disk .entry))))) ⌝ }
+    ensures { λ r. ⌜ handedBack (device (now (flash .exit)) (now (spare .exit)) (now (disk .exit))) [] r ≡ rebuilding z begun s (device (now (flash .entry)) (now (spare .entry)) (now (disk .entry))) ⌝ }
 {
     let n = order.len();
     let mut writes = classes::blank_column();
     let mut dropped = classes::blank_column();
     classes::write_columns(z, order, spare, &mut writes[..n], &mut dropped[..n]);
-    recover_copies(
+    rebuild_copies(
         s,
         z,
-        allowance,
+        begun,
         order,
         &writes[..n],
         &dropped[..n],
@@ -265,6 +277,25 @@ fn recover_writes(
 }
 
 // The used buckets are put in order once, for all lists and stores.
+fn rebuild(
+    s: State,
+    z: Sizes,
+    begun: Begun,
+    flash: &mut [u8],
+    spare: &mut [u8],
+    disk: &mut [u8],
+) -> Outcome
+    requires { ⌜ Recoverable z (now flash) (now spare) (now disk) ⌝ }
+    requires { ⌜ begun .meter .left ≤ begun .allowance ⌝ }
+    ensures { λ r. ⌜ handedBack (device (now (flash .exit)) (now (spare .exit)) (now (disk .exit))) [] r ≡ rebuilding z begun s (device (now (flash .entry)) (now (spare .entry)) (now (disk .entry))) ⌝ }
+{
+    let used = classes::in_order(z, spare);
+    let n = used.used();
+    let order = used.items;
+    rebuild_writes(s, z, begun, &order[..n], flash, spare, disk)
+}
+
+// Epochs and names are those that recovery finds; a cut in its erases ends it.
 fn recover_chip(
     s: State,
     z: Sizes,
@@ -273,13 +304,22 @@ fn recover_chip(
     spare: &mut [u8],
     disk: &mut [u8],
 ) -> Outcome
-    requires { ⌜ Recoverable z (now flash) (now spare) (now disk) ⌝ }
+    requires { ⌜ Found z (device (now flash) (now spare) (now disk)) ⌝ }
     ensures { λ r. ⌜ handedBack (device (now (flash .exit)) (now (spare .exit)) (now (disk .exit))) [] r ≡ handed s (carryOut allowance (recoverCall z) (viewOf s) (device (now (flash .entry)) (now (spare .entry)) (now (disk .entry))) (recover z (device (now (flash .entry)) (now (spare .entry)) (now (disk .entry))))) ⌝ }
 {
-    let used = classes::in_order(z, spare);
-    let n = used.used();
-    let order = used.items;
-    recover_writes(s, z, allowance, &order[..n], flash, spare, disk)
+    let next = fits::top_epoch(z, spare) + 1;
+    let marks = ledger::named(z, spare);
+    let whole = Meter::whole(allowance);
+    let meter = sweep::sweep(whole, z, &marks, flash, spare, disk);
+    if meter.cut {
+        return outcome::cut_short(meter, allowance, s);
+    }
+    let begun = Begun {
+        allowance,
+        meter,
+        next,
+    };
+    rebuild(s, z, begun, flash, spare, disk)
 }
 
 // The entry. The sizes are its own: the state's are not looked at.
@@ -293,7 +333,7 @@ pub fn recover(
 ) -> Outcome
     ensures { λ r. ⌜ handedBack (device (now (flash .exit)) (now (spare .exit)) (now (disk .exit))) [] r ≡ handed s (call allowance (recoverCall z) (viewOf s) (device (now (flash .entry)) (now (spare .entry)) (now (disk .entry)))) ⌝ }
 {
-    let number = checks::image_refusal(z, flash, spare, disk);
+    let number = checks::recover_refusal(z, flash, spare, disk);
     if number == 0 {
         recover_chip(s, z, allowance, flash, spare, disk)
     } else {

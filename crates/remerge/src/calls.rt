@@ -42,12 +42,12 @@ fn log_length(seed: u32, size: usize) -> usize
     random::below(next, size) + 1
 }
 
-// One call in three may be cut: a write makes at most 2P + 2 stores.
+// One call in three may be cut: a write makes at most 2P + 5 stores, or 8 where a bucket has one page.
 fn allowance(z: Sizes, seed: u32) -> usize
     requires { ⌜ Limits z ⌝ }
 {
     if random::below(seed, 3) == 0 {
-        random::below(random::next(seed), 2 * z.p + 2)
+        random::below(random::next(seed), 2 * z.p + 5)
     } else {
         PLENTY
     }

@@ -22,7 +22,7 @@ use Rattle.model.proofs.RecoverChoice.{in-buckets, dropped-copy, unsaved-by, ch
 use Rattle.geometry.specs.Geometry.{device}
 use Rattle.geometry.proofs.Passed.{lengths-of}
 use Rattle.image.specs.Chip.{spareOnly}
-use Rattle.rules.proofs.SameSpare.{same-well-formed}
+use Rattle.rules.proofs.SameSpare.{same-body-fits}
 use Rattle.overlay.specs.Window.{Readable, chip}
 use Rattle.overlay.proofs.SameChip.{same-merge-all}
 use Rattle.classes.specs.Columns.{nowhere, inOrder, column}
@@ -121,7 +121,7 @@ module _ {z : Sizes} {flash spare : List ℕ} (readable : Readable z flash spare
 
       go : (t : Bool) → flushed z o b ≡ t → length (rescued z d b) ≡ bucketSize z
       go true h = ap length (sym (rescued-merged h) ∙ same-merge-all z d logs (baseBytes z d b))
-          ∙ length-mergeAll z d (omega (arith, readable .limits .s-low)) lengths (formed-of z d (sym (same-well-formed z d) ∙ readable .well-formed)) logs below (baseBytes z d b) base-size
+          ∙ length-mergeAll z d (omega (arith, readable .limits .s-low)) lengths (formed-of z d (sym (same-body-fits z d) ∙ readable .well-formed)) logs below (baseBytes z d b) base-size
       go false h = ap length (sym (rescued-own h lost)) ∙ base-size
 
 -- the stores depend on the disk's bytes of b, and on no other

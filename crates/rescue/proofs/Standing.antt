@@ -49,7 +49,7 @@ module _ (z : Sizes) (d : Device) where
   pub order-length : Limits z → {order : List ℕ} → order ≡ inOrder z d → length order ≤ 256
   unfolding byEpoch buckets below
   order-length limits e =
-      omega (arith, ap length e, length-sort (epochOf z d) (buckets z d (used z d)), keep-length (used z d) (below (body z)), length-row (body z) (λ k. k), limits .body-high, limits .c-high)
+      omega (arith, ap length e, length-sort (epochOf z d) (buckets z d (used z d)), keep-length (used z d) (below (body z)), length-row (body z) (λ k. k), limits .ledger-in, limits .c-high)
 
   pub column-length : (t : ℕ → Bool) {order numbers : List ℕ} → order ≡ inOrder z d → numbers ≡ column z d t → length numbers ≡ length order
   column-length t e h = ap length h ∙ length-map (inOrder z d) (named z d t) ∙ sym (ap length e)

@@ -12,13 +12,13 @@ ghost use Rattle.model.specs.Sizes.{bucketSize, diskSize, body};
 ghost use Rattle.model.specs.Stores.{diskBytes};
 ghost use Rattle.model.specs.Image.{isDirty};
 ghost use Rattle.model.specs.State.{isBelow};
-ghost use Rattle.model.specs.Recover.{isDroppedWrite, isDroppedCopy, mergeAll, isRescued, rescued, rescueStores, recover};
+ghost use Rattle.model.specs.Recover.{isDroppedWrite, isDroppedCopy, mergeAll, isRescued, rescued, rescueStores};
 ghost use Rattle.geometry.specs.Geometry.{device, Lent};
 ghost use Rattle.image.specs.Chip.{Chip, spareOnly};
 ghost use Rattle.overlay.specs.Window.{Turns, Readable, chip};
 ghost use Rattle.meter.specs.Run.{running, runAll};
 ghost use Rattle.classes.specs.Columns.{inOrder, column, Columns};
-ghost use Rattle.rescue.specs.Sources.{Recoverable, Listed};
+ghost use Rattle.rescue.specs.Sources.{Recoverable, Listed, rescues};
 ghost use Rattle.rescue.specs.Beside.{beside, Passed, isUnwritten};
 
 // So many places of a column are compared with a number at once.
@@ -240,7 +240,7 @@ fn rescue_each(
     requires { ⌜ Recoverable z (now flash) (now spare) (now disk) ⌝ }
     requires { ⌜ Listed z (now spare) (now order) (now writes) (now «dropped_writes») (now copies) ⌝ }
     requires { ⌜ now unwritten ≡ column z (spareOnly (now spare)) (isUnwritten z (spareOnly (now spare))) ⌝ }
-    ensures { λ r. ⌜ running (now (flash .entry)) (now (spare .entry)) (now (disk .exit)) r ≡ runAll z (recover z (device (now (flash .entry)) (now (spare .entry)) (now (disk .entry))) .stores) (running (now (flash .entry)) (now (spare .entry)) (now (disk .entry)) meter) ⌝ }
+    ensures { λ r. ⌜ running (now (flash .entry)) (now (spare .entry)) (now (disk .exit)) r ≡ runAll z (rescues z (device (now (flash .entry)) (now (spare .entry)) (now (disk .entry)))) (running (now (flash .entry)) (now (spare .entry)) (now (disk .entry)) meter) ⌝ }
     ensures { λ _. ⌜ length (now (disk .exit)) ≡ diskSize z ⌝ }
 {
     let end = z.b;
@@ -279,7 +279,7 @@ pub fn rescue(
 ) -> Meter
     requires { ⌜ Recoverable z (now flash) (now spare) (now disk) ⌝ }
     requires { ⌜ Columns z (spareOnly (now spare)) (now order) (now writes) (now «dropped_writes») (now copies) (now «dropped_copies») ⌝ }
-    ensures { λ r. ⌜ running (now (flash .exit)) (now (spare .exit)) (now (disk .exit)) r ≡ runAll z (recover z (device (now (flash .entry)) (now (spare .entry)) (now (disk .entry))) .stores) (running (now (flash .entry)) (now (spare .entry)) (now (disk .entry)) meter) ⌝ }
+    ensures { λ r. ⌜ running (now (flash .exit)) (now (spare .exit)) (now (disk .exit)) r ≡ runAll z (rescues z (device (now (flash .entry)) (now (spare .entry)) (now (disk .entry)))) (running (now (flash .entry)) (now (spare .entry)) (now (disk .entry)) meter) ⌝ }
     ensures { λ _. ⌜ Lent z (now (flash .exit)) (now (spare .exit)) (now (disk .exit)) ⌝ }
 {
     let unwritten = unwritten_backs(z, order, dropped_writes, dropped_copies, spare);

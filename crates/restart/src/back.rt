@@ -1,21 +1,46 @@
-// The restart: recovery cut after every number of stores, then every back-end bucket read.
+// The restart: recovery cut after every number of stores, its erases stopped halfway, then every back-end bucket read.
+use crate::ahead;
 use crate::plain;
 use crate::row;
 use crate::run;
 use crate::run::Run;
+use crate::tear;
 use model::Sizes;
 use state::State;
-ghost use Prim.Native.Nat.{_≤_};
+ghost use Prim.Native.Nat.{_≤_, _<_};
 
-// The stores of the whole recovery, and whether every byte read is that of the plain disk.
+// The stores of the whole recovery, the erases that stopped halfway, and whether every byte read is that of the plain disk.
 pub struct Back {
     pub stores: usize,
+    pub torn: usize,
     pub kept: bool,
+}
+
+impl Back {
+    // The same, and some erases more; two digits of their number are printed.
+    pub fn and_torn(self, torn: usize) -> Back {
+        Back {
+            stores: self.stores,
+            torn: self.torn % 100 + torn % 100,
+            kept: self.kept,
+        }
+    }
+
+    // The same, and what another restart came to.
+    pub fn and(self, other: Back) -> Back {
+        Back {
+            stores: self.stores,
+            torn: self.torn % 100 + other.torn % 100,
+            kept: self.kept & other.kept,
+        }
+    }
 }
 
 struct Recovered {
     state: State,
     stores: usize,
+    torn: usize,
+    cut: bool,
 }
 
 struct Read {
@@ -23,31 +48,76 @@ struct Read {
     same: bool,
 }
 
-// Recovery with no store allowed, with one, and so on until it is whole.
+// One recovery. Where it was cut and an erase came next, a set of that bucket's pages is blank.
+fn recover_once(
+    s: State,
+    z: Sizes,
+    allowance: usize,
+    set: usize,
+    flash: &mut [u8],
+    spare: &mut [u8],
+    disk: &mut [u8],
+) -> Recovered
+    requires { ⌜ allowance ≤ 32 ⌝ }
+    ensures { λ r. ⌜ r .torn ≤ 1 ⌝ }
+{
+    let after = ahead::blanks_after(s, z, allowance + 1, flash, spare, disk);
+    let o = recover::recover(s, z, allowance, flash, spare, disk);
+    let state = o.state;
+    let reply = o.answer;
+    let c = tear::erased(tear::blanks(z, spare), after);
+    let torn = tear::tear(z, c, set, flash, spare);
+    Recovered {
+        state,
+        stores: o.stores,
+        torn,
+        cut: run::letter(reply) == b'C',
+    }
+}
+
+// The allowance after this one; behind a recovery that was not cut there is none.
+fn next_allowance(cut: bool, allowance: usize) -> usize
+    requires { ⌜ allowance < 32 ⌝ }
+    ensures { λ r. ⌜ (allowance < r) × (r ≤ 32) ⌝ }
+{
+    if cut { allowance + 1 } else { 32 }
+}
+
+// Recovery with no store allowed, with one, and so on until it is whole; the sets of pages take turns.
 fn recover_whole(
     s: State,
     z: Sizes,
+    set: usize,
     flash: &mut [u8],
     spare: &mut [u8],
     disk: &mut [u8],
 ) -> Recovered {
     let mut state = s;
+    let mut stores = 0;
+    let mut torn = 0;
+    let mut cut = true;
     let mut allowance = 0;
     while allowance < 32 {
-        let o = recover::recover(state, z, allowance, flash, spare, disk);
-        state = o.state;
-        let reply = o.answer;
-        if run::letter(reply) != b'C' {
-            return Recovered {
-                state,
-                stores: o.stores,
-            };
-        }
-        allowance += 1;
+        let one = recover_once(
+            state,
+            z,
+            allowance,
+            set % 16 + allowance,
+            flash,
+            spare,
+            disk,
+        );
+        state = one.state;
+        stores = one.stores;
+        torn += one.torn;
+        cut = one.cut;
+        allowance = next_allowance(cut, allowance);
     }
     Recovered {
         state,
-        stores: allowance,
+        stores,
+        torn,
+        cut,
     }
 }
 
@@ -114,14 +184,22 @@ fn kept(
     same
 }
 
-pub fn restart(run: Run, z: Sizes, flash: &mut [u8], spare: &mut [u8], disk: &mut [u8]) -> Back {
+pub fn restart(
+    run: Run,
+    z: Sizes,
+    set: usize,
+    flash: &mut [u8],
+    spare: &mut [u8],
+    disk: &mut [u8],
+) -> Back {
     let s = run.state;
-    let after = recover_whole(s, z, flash, spare, disk);
+    let after = recover_whole(s, z, set, flash, spare, disk);
     let state = after.state;
     let plain = run.plain;
     let kept = kept(state, z, plain, flash, spare, disk);
     Back {
         stores: after.stores,
+        torn: after.torn,
         kept,
     }
 }

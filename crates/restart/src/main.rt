@@ -1,10 +1,12 @@
-// Calls cut after every number of stores, then recoveries cut after every number of stores, on chips of several sizes; and a length that no
-// workbench line can say.
+// Calls cut after every number of stores, then recoveries cut after every number of stores, erases stopped halfway in both, on chips of several
+// sizes; and a length that no workbench line can say.
+mod ahead;
 mod back;
 mod cuts;
 mod plain;
 mod row;
 mod run;
+mod tear;
 
 use model::Sizes;
 
@@ -24,13 +26,13 @@ fn one_page() {
     let z = Sizes {
         s: 4,
         p: 1,
-        c: 3,
+        c: 5,
         b: 1,
         r: 1,
         w: 1,
     };
-    let mut flash = [0u8; 12];
-    let mut spare = [0u8; 48];
+    let mut flash = [0u8; 20];
+    let mut spare = [0u8; 80];
     let mut disk = [0u8; 4];
     drain_beyond_places(z, &mut flash, &mut spare, &mut disk);
     cuts::cut_all(z, &mut flash, &mut spare, &mut disk);

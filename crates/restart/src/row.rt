@@ -15,7 +15,7 @@ pub fn data_of(i: usize) -> [u8; 64] {
     bytes
 }
 
-fn at_most_64(n: usize) -> usize
+pub fn at_most_64(n: usize) -> usize
     ensures { λ r. ⌜ r ≤ 64 ⌝ }
 {
     if n < 64 { n } else { 64 }
@@ -31,7 +31,7 @@ pub fn length_of(z: Sizes, call: [u8; 6]) -> usize
     at_most_64(pages * page + rest)
 }
 
-// F format, R read, W write, D drain; then the allowance of stores, the back-end bucket, the offset, and the length.
+// F format, R read, W write, E erase step, D drain; then the allowance of stores, the back-end bucket, the offset, and the length.
 pub fn make(
     s: State,
     z: Sizes,
@@ -49,6 +49,7 @@ pub fn make(
         b'F' => format::format(s, z, allowance, flash, spare, disk),
         b'R' => read::read(s, b, offset, bytes, allowance, flash, spare, disk),
         b'W' => write::write(s, b, offset, bytes, allowance, flash, spare, disk),
+        b'E' => erasestep::erase_step(s, allowance, flash, spare, disk),
         _ => drain::drain(s, allowance, flash, spare, disk),
     }
 }

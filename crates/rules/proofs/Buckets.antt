@@ -1,5 +1,5 @@
 -- A bucket that fits: pages that fit, then blank ones. Several buckets with no kind at once.
-use Prim.Native.Nat.{ℕ, suc, _+_, _-_, _*_, _≤_, _<_}
+use Prim.Native.Nat.{ℕ, _+_, _-_, _*_, _≤_, _<_}
 use mathlib.Core.Path.{_≡_, refl, sym, ap, _∙_}
 use mathlib.Core.Logic.{⊎-elim}
 use mathlib.Core.Bool.{Bool, true, false, _&&_, _||_, or-false}
@@ -13,22 +13,18 @@ use Rattle.lists.specs.Lists.{allBelow, part}
 use Rattle.lists.proofs.Tests.{true-or-false, same-truth, and-true, and-false, or-left, or-second}
 use Rattle.lists.proofs.Rows.{all-below, below-all, below-alike, below-append, below-rows}
 use Rattle.model.specs.declared.Sizes.{Sizes}
-use Rattle.model.specs.Sizes.{pageIndex, spareSize}
+use Rattle.model.specs.Sizes.{spareSize}
 use Rattle.model.specs.Spare.{blank, kind}
 use Rattle.model.specs.Stores.{tagOf}
 use Rattle.model.specs.Image.{headTag, pageFits, bucketFits}
 use Rattle.model.proofs.Formed.{blank-after}
 use Rattle.spare.specs.Fields.{blankFrom}
 use Rattle.image.specs.Chip.{Chip, spareOnly}
+use Rattle.image.proofs.Place.{page-from}
 use Rattle.rules.specs.Pages.{fitsAt, Stops, fitsFrom}
 use Rattle.rules.proofs.Page.{either-page, no-kind}
 
 module _ (z : Sizes) (spare : List ℕ) where
-  -- page j of those from page n of the bucket c on
-  page-from : (c n j : ℕ) → blankFrom spare (c * z .p + n) j ≡ blank (tagOf z (spareOnly spare) c (n + j))
-  unfolding blankFrom tagOf pageIndex
-  page-from c n j = let e : c * z .p + n + j ≡ c * z .p + (n + j) = omega arith in ap (λ (i : ℕ). blank (part spare (i * 16) 16)) e
-
   pub bucket-split : (c n : ℕ) → Stops z (spareOnly spare) c n → bucketFits z (spareOnly spare) c ≡ allBelow (z .p - n) (blankFrom spare (c * z .p + n))
   unfolding bucketFits
   bucket-split c n stops = same-truth _ _ split join
@@ -42,13 +38,13 @@ module _ (z : Sizes) (spare : List ℕ) where
       split h =
           let fit = all-below (z .p) (pageFits z (spareOnly spare) c) h in
           below-all (z .p - n) (blankFrom spare (c * z .p + n)) (λ j q.
-          page-from c n j ∙ blank-after z (spareOnly spare) c fit n (n + j) (omega arith) (omega arith) (first-blank (fit n (omega arith)) (omega arith)))
+          page-from z spare c n j ∙ blank-after z (spareOnly spare) c fit n (n + j) (omega arith) (omega arith) (first-blank (fit n (omega arith)) (omega arith)))
 
       from : allBelow (z .p - n) (blankFrom spare (c * z .p + n)) ≡ true → (k : ℕ) → n ≤ k → k < z .p → blank (tagOf z (spareOnly spare) c k) ≡ true
       from h k g q =
           let at : n + (k - n) ≡ k = omega arith in
           ap (λ (i : ℕ). blank (tagOf z (spareOnly spare) c i)) (sym at)
-          ∙ (sym (page-from c n (k - n)) ∙ all-below (z .p - n) (blankFrom spare (c * z .p + n)) h (k - n) (omega arith))
+          ∙ (sym (page-from z spare c n (k - n)) ∙ all-below (z .p - n) (blankFrom spare (c * z .p + n)) h (k - n) (omega arith))
 
       join : allBelow (z .p - n) (blankFrom spare (c * z .p + n)) ≡ true → allBelow (z .p) (pageFits z (spareOnly spare) c) ≡ true
       join h = below-all (z .p) (pageFits z (spareOnly spare) c) (λ k q. either-page z (spareOnly spare) c k ∙ ⊎-elim
@@ -80,10 +76,6 @@ module _ (z : Sizes) (spare : List ℕ) where
 
 -- where they lie
 module _ {z : Sizes} {spare : List ℕ} (chip : Chip z spare) where
-  pub bucket-inside : (c : ℕ) → c < z .c → (c * z .p + z .p) * 16 ≤ length spare
-  unfolding spareSize
-  bucket-inside c h = let q : suc c * z .p ≤ z .c * z .p = mul-le-mul-right (z .p) h in omega (arith, chip .spare-length)
-
   pub span-inside : (c e : ℕ) → c ≤ e → e ≤ z .c → (c * z .p + (e - c) * z .p) * 16 ≤ length spare
   unfolding spareSize
   span-inside c e h g =

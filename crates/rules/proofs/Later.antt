@@ -19,7 +19,7 @@ use Rattle.model.specs.Spare.{two, four, writeKind, kind, ordinal, pages, epoch
 use Rattle.model.specs.Image.{follows, fieldsFit}
 use Rattle.model.proofs.Rules.{Fields, fields-of, fields-test, Follows, Goes, begins, goes-on, follows-of, follows-test}
 use Rattle.rules.specs.Pages.{logFits, sameBucket, goesOn, logGoes}
-use Rattle.rules.proofs.Page.{fields-used, log-tested, pages-told, bytes-told, ordinal-told}
+use Rattle.rules.proofs.Page.{fields-used, log-tested, pages-told, bytes-told}
 
 -- parts that have the same bytes
 parts-same : (l m : List ℕ) (i n : ℕ) → i + n ≤ length l → i + n ≤ length m → ((k : ℕ) → k < n → getD l (i + k) 0 ≡ getD m (i + k) 0)
@@ -43,7 +43,7 @@ zero-byte tag h (suc zero) = eqb-true _ _ (every-at _ h 1)
 zero-byte tag h (suc (suc zero)) = eqb-true _ _ (every-at _ h 2)
 zero-byte tag h (suc (suc (suc k))) = refl
 
-module _ (z : Sizes) (some : 1 ≤ z .s) (before tag : List ℕ) (fit : fieldsFit z before ≡ true) where
+module _ (z : Sizes) (before tag : List ℕ) (fit : fieldsFit z before ≡ true) where
   r : Fields z before
   r = fields-of z before fit
 
@@ -69,9 +69,9 @@ module _ (z : Sizes) (some : 1 ≤ z .s) (before tag : List ℕ) (fit : fieldsFi
     unfolding sameBucket zeros
     same-zeros = let e : getD tag 3 0 ≡ getD before 3 0 = eqb-true _ _ (every-at _ bucket 2) ∙ sym (zero-byte before (r .zeros-are) 0) in rw (e, place 6 (omega arith), place 7 (omega arith))
 
-    tested : (pages tag ≡ pagesFor z (extent tag)) → (offset tag + extent tag ≤ bucketSize z) → (ordinal tag < pages tag)
+    tested : (pages tag ≡ pagesFor z (extent tag)) → (offset tag + extent tag ≤ bucketSize z)
         → (kind tag ≡ writeKind) ⊎ ((offset tag ≡ 0) × (extent tag ≡ bucketSize z)) → Goes before tag → (fieldsFit z tag && follows before tag) ≡ true
-    tested n i o w g = and-true
+    tested n i w g = and-true
         (fields-test z tag (record {
           kind-low = omega (arith, same-kind, r .kind-low);
           kind-high = omega (arith, same-kind, r .kind-high);
@@ -80,7 +80,6 @@ module _ (z : Sizes) (some : 1 ≤ z .s) (before tag : List ℕ) (fit : fieldsFi
           zeros-are = same-zeros ∙ r .zeros-are;
           pages-are = n;
           bytes-inside = i;
-          ordinal-below = o;
           whole = w;
         }))
         (follows-test before tag (record {
@@ -95,7 +94,7 @@ module _ (z : Sizes) (some : 1 ≤ z .s) (before tag : List ℕ) (fit : fieldsFi
     starts o h =
         let log = and-left _ _ h in
         let w : kind tag ≡ writeKind = eqb-true _ _ (and-right (logFits z tag) _ h) in
-        tested (pages-told z tag log) (bytes-told z tag log) (ordinal-told z tag log some o) (inl w) (begins o w)
+        tested (pages-told z tag log) (bytes-told z tag log) (inl w) (begins o w)
 
     continues : goesOn before tag ≡ true → (fieldsFit z tag && follows before tag) ≡ true
     unfolding goesOn offset extent two
@@ -104,8 +103,8 @@ module _ (z : Sizes) (some : 1 ≤ z .s) (before tag : List ℕ) (fit : fieldsFi
         let n : pages tag ≡ pages before = eqb-true _ _ (every-at _ h 1) in
         let i : offset tag ≡ offset before = rw (last 0 (omega arith), last 1 (omega arith)) in
         let l : extent tag ≡ extent before = rw (last 2 (omega arith), last 3 (omega arith)) in
-        tested (n ∙ (r .pages-are ∙ ap (pagesFor z) (sym l))) (omega (arith, i, l, r .bytes-inside)) (ltb-true _ _ (every-at _ h 2))
-        (rw (same-kind, i, l) (r .whole)) (goes-on (eqb-true _ _ (every-at _ h 0)) n i l)
+        tested (n ∙ (r .pages-are ∙ ap (pagesFor z) (sym l))) (omega (arith, i, l, r .bytes-inside)) (rw (same-kind, i, l) (r .whole))
+        (goes-on (eqb-true _ _ (every-at _ h 0)) (ltb-true _ _ (every-at _ h 2)) n i l)
 
     later-tested : (fieldsFit z tag && follows before tag) ≡ true
     unfolding logGoes
@@ -182,7 +181,7 @@ module _ (z : Sizes) (some : 1 ≤ z .s) (before tag : List ℕ) (fit : fieldsFi
     goes-told : Goes before tag → logGoes z before tag ≡ true
     unfolding logGoes
     goes-told (begins o k) = if-true _ _ (eq-eqb _ _ o) ∙ and-true (log-tested z tag f) (eq-eqb _ _ k)
-    goes-told (goes-on o n i l) = going before-length length-tag o n (f .ordinal-below) (log-told i l)
+    goes-told (goes-on o u n i l) = going before-length length-tag o n u (log-told i l)
 
   pub later-test : length before ≡ 16 → length tag ≡ 16 → ((i : ℕ) → i < 16 → (getD before i 0 < 256) × (getD tag i 0 < 256))
       → (sameBucket before tag && logGoes z before tag) ≡ (fieldsFit z tag && follows before tag)

@@ -17,7 +17,7 @@ use Rattle.model.specs.Spare.{blank, writeKind, kind, ordinal, pages, epoch, ba
 use Rattle.model.specs.Stores.{tagOf}
 use Rattle.model.specs.Image.{follows, spansBucket, fieldsFit, pageFits}
 use Rattle.model.proofs.Limits.{pages-hold, pages-least, pages-some}
-use Rattle.model.proofs.Rules.{Fields, fields-of, fields-test}
+use Rattle.model.proofs.Rules.{Fields, fields-of, fields-test, Goes, begins, goes-on, follows-of}
 use Rattle.image.proofs.First.{kind-used}
 use Rattle.rules.specs.Pages.{logFits, kindFits, fitsAt}
 
@@ -37,9 +37,9 @@ takes-test z some n m = same-truth _ _ least holds
     holds h = rw (eqb-true m (pagesFor z n) h) (and-true (le-leb _ _ (pages-hold z n some)) (lt-ltb _ _ (pages-least z n some)))
 
 -- tests as the code groups them
-grouped-first : (a b c d e f : Bool) → (a && b && c && d && (e && f)) ≡ every (a ∷ b ∷ c ∷ d ∷ e ∷ f ∷ [])
+grouped-five : (a b c d e : Bool) → (a && b && c && (d && e)) ≡ every (a ∷ b ∷ c ∷ d ∷ e ∷ [])
 unfolding every
-grouped-first a b c d e f = simp (and-assoc, bool.and-true)
+grouped-five a b c d e = simp (and-assoc, bool.and-true)
 
 pub grouped-three : (a b c : Bool) → (a && b && c) ≡ every (a ∷ b ∷ c ∷ [])
 unfolding every
@@ -77,24 +77,21 @@ module _ (z : Sizes) (tag : List ℕ) where
     unfolding logFits
     bytes-told = leb-true _ _ (and-right (eqb (pages tag) (pagesFor z (extent tag))) _ log)
 
-    -- a log has a page
-    pub ordinal-told : 1 ≤ z .s → ordinal tag ≡ 0 → ordinal tag < pages tag
-    unfolding extent
-    ordinal-told some first = omega (arith, first, pages-told, pages-some z (extent tag) some (omega arith))
+  -- a log has a page
+  first-below : 1 ≤ z .s → Fields z tag → ordinal tag ≡ 0 → ordinal tag < pages tag
+  unfolding extent
+  first-below some f first = omega (arith, first, f .pages-are, pages-some z (extent tag) some (omega arith))
 
   pub write-fits : kind tag ≡ writeKind → kindFits z tag ≡ true
   unfolding kindFits within
   write-fits e = rw e
 
-  -- a bucket's first page
-  pub first-test : 1 ≤ z .s
-      → (leb 1 (epoch tag) && ltb (back tag) (z .b) && zeros tag && eqb (ordinal tag) 0 && (logFits z tag && kindFits z tag))
-      ≡ (fieldsFit z tag && eqb (ordinal tag) 0)
+  pub fields-tested : (leb 1 (epoch tag) && ltb (back tag) (z .b) && zeros tag && (logFits z tag && kindFits z tag)) ≡ fieldsFit z tag
   unfolding kindFits spansBucket
-  first-test some = grouped-first _ _ _ _ _ _ ∙ same-truth _ _ tested told
+  fields-tested = grouped-five _ _ _ _ _ ∙ same-truth _ _ tested told
     where
       tests : List Bool
-      tests = leb 1 (epoch tag) ∷ ltb (back tag) (z .b) ∷ zeros tag ∷ eqb (ordinal tag) 0 ∷ logFits z tag ∷ kindFits z tag ∷ []
+      tests = leb 1 (epoch tag) ∷ ltb (back tag) (z .b) ∷ zeros tag ∷ logFits z tag ∷ kindFits z tag ∷ []
 
       whole : (eqb (kind tag) writeKind || (eqb (offset tag) 0 && eqb (extent tag) (bucketSize z))) ≡ true
           → (kind tag ≡ writeKind) ⊎ ((offset tag ≡ 0) × (extent tag ≡ bucketSize z))
@@ -103,30 +100,28 @@ module _ (z : Sizes) (tag : List ℕ) where
           (λ e. inr (eqb-true _ _ (and-left (eqb (offset tag) 0) _ e), eqb-true _ _ (and-right (eqb (offset tag) 0) _ e)))
           (or-cases (eqb (kind tag) writeKind) _ h)
 
-      tested : every tests ≡ true → (fieldsFit z tag && eqb (ordinal tag) 0) ≡ true
+      tested : every tests ≡ true → fieldsFit z tag ≡ true
       tested h =
           let t = every-at tests h in
-          and-true (fields-test z tag (record {
-            kind-low = within-low 1 3 (kind tag) (and-left _ _ (t 5));
-            kind-high = within-high 1 3 (kind tag) (and-left _ _ (t 5));
+          fields-test z tag (record {
+            kind-low = within-low 1 3 (kind tag) (and-left _ _ (t 4));
+            kind-high = within-high 1 3 (kind tag) (and-left _ _ (t 4));
             epoch-low = leb-true _ _ (t 0);
             back-below = ltb-true _ _ (t 1);
             zeros-are = t 2;
-            pages-are = pages-told (t 4);
-            bytes-inside = bytes-told (t 4);
-            ordinal-below = ordinal-told (t 4) some (eqb-true _ _ (t 3));
-            whole = whole (and-right (within 1 3 (kind tag)) _ (t 5));
-          })) (t 3)
+            pages-are = pages-told (t 3);
+            bytes-inside = bytes-told (t 3);
+            whole = whole (and-right (within 1 3 (kind tag)) _ (t 4));
+          })
 
-      told : (fieldsFit z tag && eqb (ordinal tag) 0) ≡ true → every tests ≡ true
+      told : fieldsFit z tag ≡ true → every tests ≡ true
       told h =
-          let f = fields-of z tag (and-left _ _ h) in
+          let f = fields-of z tag h in
           every-more _ _ (le-leb _ _ (f .epoch-low))
           (every-more _ _ (lt-ltb _ _ (f .back-below))
           (every-more _ _ (f .zeros-are)
-          (every-more _ _ (and-right (fieldsFit z tag) _ h)
           (every-more _ _ (log-tested f)
-          (every-more _ _ (kind-tested f) every-none)))))
+          (every-more _ _ (kind-tested f) every-none))))
 
 module _ (z : Sizes) (d : Device) (c : ℕ) where
   -- the rules for page k, by where it stands
@@ -148,6 +143,17 @@ module _ (z : Sizes) (d : Device) (c : ℕ) where
   unfolding fitsAt
   fits-fields zero h = and-left _ _ h
   fits-fields (suc k) h = and-left _ _ h
+
+  -- a page that fits has an ordinal below its log's count
+  pub ordinal-fits : 1 ≤ z .s → (k : ℕ) → fitsAt z d c k ≡ true → ordinal (tagOf z d c k) < pages (tagOf z d c k)
+  unfolding fitsAt
+  ordinal-fits some zero h =
+      first-below z (tagOf z d c 0) some (fields-of z _ (and-left (fieldsFit z (tagOf z d c 0)) _ h)) (eqb-true _ _ (and-right (fieldsFit z (tagOf z d c 0)) _ h))
+  ordinal-fits some (suc k) h = go (follows-of _ _ (and-right (fieldsFit z (tagOf z d c (suc k))) _ h) .goes)
+    where
+      go : Goes (tagOf z d c k) (tagOf z d c (suc k)) → ordinal (tagOf z d c (suc k)) < pages (tagOf z d c (suc k))
+      go (begins o w) = first-below z (tagOf z d c (suc k)) some (fields-of z _ (and-left (fieldsFit z (tagOf z d c (suc k))) _ h)) o
+      go (goes-on o u n f l) = u
 
   pub no-kind : (k : ℕ) → kind (tagOf z d c k) ≡ 255 → fitsAt z d c k ≡ false
   no-kind k e = go (fitsAt z d c k) refl

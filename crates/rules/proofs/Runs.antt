@@ -17,11 +17,10 @@ use Rattle.model.specs.Sizes.{pageIndex}
 use Rattle.model.specs.Spare.{ordinal, pages}
 use Rattle.model.specs.Stores.{tagOf}
 use Rattle.model.specs.Image.{fieldsFit}
-use Rattle.model.proofs.Rules.{fields-of}
 use Rattle.image.specs.Chip.{Chip, spareOnly}
 use Rattle.image.proofs.Place.{page-inside}
 use Rattle.rules.specs.Pages.{lowFirst, fitsAt, Fitting}
-use Rattle.rules.proofs.Page.{later-page, fits-fields}
+use Rattle.rules.proofs.Page.{later-page, fits-fields, ordinal-fits}
 use Rattle.rules.proofs.Later.{runs-on}
 use Rattle.rules.proofs.Halves.{next-below, next-bytes, next-ordinal, same-byte}
 
@@ -51,12 +50,13 @@ module _ (z : Sizes) (l : List ℕ) (c : ℕ) where
         rw b (fits-fields z (spareOnly l) c (e - 1) (all-below e (fitsAt z (spareOnly l) c) (f .1) (e - 1) (omega (arith, h))))
 
     pub ordinal-below : (e : ℕ) → 1 ≤ e → Fitting z (spareOnly l) c e → getD l (start e - 15) 0 < getD l (start e - 14) 0
-    unfolding ordinal pages
+    unfolding ordinal pages tagOf pageIndex
     ordinal-below e h f =
-        let a : start e - 15 ≡ start e - 16 + 1 = omega (arith, h) in
-        let b : start e - 14 ≡ start e - 16 + 2 = omega (arith, h) in
-        rw (a, b, sym (getD-part l (start e - 16) 16 1 (omega arith)), sym (getD-part l (start e - 16) 16 2 (omega arith)))
-        (fields-of z (part l (start e - 16) 16) (before-fits e h f) .ordinal-below)
+        let at : ℕ = (c * z .p + (e - 1)) * 16 in
+        let a : start e - 15 ≡ at + 1 = omega (arith, h) in
+        let b : start e - 14 ≡ at + 2 = omega (arith, h) in
+        rw (a, b, sym (getD-part l at 16 1 (omega arith)), sym (getD-part l at 16 2 (omega arith)))
+        (ordinal-fits z (spareOnly l) c (omega (arith, chip .limits .s-low)) (e - 1) (all-below e (fitsAt z (spareOnly l) c) (f .1) (e - 1) (omega (arith, h))))
 
     module _ (bytes : (i : ℕ) → getD l i 0 < 256) (e first second left : ℕ) (run : Run e first second left) (one : 1 ≤ left) where
       at : ℕ
@@ -117,7 +117,7 @@ module _ (z : Sizes) (l : List ℕ) (c : ℕ) where
             let b : (c * z .p + (e - 1)) * 16 ≡ at = omega (arith, run .some) in
             later-page z (spareOnly l) c e (λ n. omega (arith, run .some))
             ∙ rw (here, b)
-            (runs-on z (omega (arith, chip .limits .s-low)) (part l at 16) (part l (at + 16) 16) (before-fits e (run .some) (run .fits))
+            (runs-on z (part l at 16) (part l (at + 16) 16) (before-fits e (run .some) (run .fits))
             (length-part-fits l at 16 (omega (arith, ends))) (length-part-fits l (at + 16) 16 ends)
             (next-ordinal l bytes at less first-half second-half) more-next
             (same-byte l bytes at less first-half second-half))

@@ -1,4 +1,4 @@
-// Number 4: whether the image of a chip is well formed, made by the page rules.
+// Number 4 of a running call: whether the image of a chip is well formed, made by the page rules.
 // The first page of a bucket is tested on its fields: a contract holds of all spare bytes that say these fields.
 // A later page is compared with the page before it, which fits: bytes that are the same say fields that fit too.
 // Most pages go on with a log, and are taken in runs: two numbers of eight bytes tell it.
@@ -13,7 +13,8 @@ ghost use lib.Dec.{eqb};
 ghost use Rattle.lists.specs.Lists.{allBelow, times, distinct, keep, below};
 ghost use Rattle.model.specs.Sizes.{body, pagesFor};
 ghost use Rattle.model.specs.Spare.{writeKind, kind, ordinal, zeros};
-ghost use Rattle.model.specs.Image.{follows, fieldsFit, bucketFits, used, epochOf, wellFormed};
+ghost use Rattle.model.specs.Image.{follows, fieldsFit, bucketFits, used, epochOf, bodyFits};
+ghost use Rattle.model.specs.Ledger.{wellFormed};
 ghost use Rattle.model.proofs.Limits.{Limits};
 ghost use Rattle.spare.specs.Fields.{fields};
 ghost use Rattle.image.specs.Chip.{Chip, spareOnly};
@@ -64,18 +65,19 @@ fn starts(z: Sizes, f: Fields) -> bool
     kind_fits(z, f)
 }
 
-// The rules for the first page of a bucket.
-fn first_fits(z: Sizes, f: Fields, zeroed: bool) -> bool
+// The rules for one programmed page.
+pub fn fields_fit(z: Sizes, f: Fields, zeroed: bool) -> bool
     requires { ⌜ Limits z ⌝ }
-    ensures { λ r. ⌜ ((tag : List ℕ) → fields tag ≡ f → zeros tag ≡ zeroed → r ≡ (fieldsFit z tag && eqb (ordinal tag) 0)) ⌝ }
+    ensures { λ r. ⌜ ((tag : List ℕ) → fields tag ≡ f → zeros tag ≡ zeroed → r ≡ fieldsFit z tag) ⌝ }
 {
     let within = (1 <= f.epoch) & ((f.back as usize) < z.b);
-    if !(within & zeroed & (f.ordinal == 0)) {
+    if !(within & zeroed) {
         return false;
     }
     starts(z, f)
 }
 
+// The rules for the first page of a bucket.
 fn first_fits_at(z: Sizes, c: usize, spare: &[u8]) -> bool
     requires { ⌜ Chip z (now spare) ⌝ }
     requires { ⌜ c < z .c ⌝ }
@@ -84,7 +86,7 @@ fn first_fits_at(z: Sizes, c: usize, spare: &[u8]) -> bool
     let page = c * z.p;
     let f = spare::fields_at(spare, page);
     let zeroed = spare::zeroed(spare, page);
-    first_fits(z, f, zeroed)
+    fields_fit(z, f, zeroed) & (f.ordinal == 0)
 }
 
 // Whether a page has the kind, epoch, back-end bucket and zero bytes of the page before it. They fit there, and need no other test.
@@ -254,7 +256,7 @@ fn fitting(z: Sizes, c: usize, spare: &[u8]) -> usize
 }
 
 // Blank pages come only at the end.
-fn bucket_fits(z: Sizes, c: usize, spare: &[u8]) -> bool
+pub fn bucket_fits(z: Sizes, c: usize, spare: &[u8]) -> bool
     requires { ⌜ Chip z (now spare) ⌝ }
     requires { ⌜ c < z .c ⌝ }
     ensures { λ r. ⌜ r ≡ bucketFits z (spareOnly (now (spare .entry))) c ⌝ }
@@ -367,7 +369,7 @@ fn stands_alone(items: &[u32], i: usize, slots: &[u8; 1024]) -> bool
     count_of(x, items) == 1
 }
 
-fn all_differ(items: &[u32]) -> bool
+pub fn all_differ(items: &[u32]) -> bool
     requires { ⌜ length (now items) ≤ 256 ⌝ }
     ensures { λ r. ⌜ r ≡ distinct (now (items .entry)) ⌝ }
 {
@@ -403,12 +405,21 @@ fn epochs_differ(z: Sizes, spare: &[u8]) -> bool
     all_differ(&epochs[..n])
 }
 
-pub fn well_formed(z: Sizes, spare: &[u8]) -> bool
+// The buckets outside the ledger.
+pub fn body_fits(z: Sizes, spare: &[u8]) -> bool
     requires { ⌜ Chip z (now spare) ⌝ }
-    ensures { λ r. ⌜ r ≡ wellFormed z (spareOnly (now (spare .entry))) ⌝ }
+    ensures { λ r. ⌜ r ≡ bodyFits z (spareOnly (now (spare .entry))) ⌝ }
 {
     if !buckets_fit(z, spare) {
         return false;
     }
     epochs_differ(z, spare)
+}
+
+pub fn well_formed(z: Sizes, spare: &[u8]) -> bool
+    requires { ⌜ Chip z (now spare) ⌝ }
+    ensures { λ r. ⌜ r ≡ wellFormed z (spareOnly (now (spare .entry))) ⌝ }
+{
+    let body = body_fits(z, spare);
+    body & ledger::ledger_fits(z, spare)
 }

@@ -4,7 +4,7 @@ ghost use Prim.Native.Nat.{_+_, _*_, _≤_};
 ghost use lib.Dec.{eqb};
 ghost use lib.ListN.{length};
 ghost use Rattle.lists.specs.Lists.{allBelow, same, part, ff};
-ghost use Rattle.model.specs.Spare.{two, four, blank, kind, ordinal, pages, epoch, back, zeros};
+ghost use Rattle.model.specs.Spare.{two, four, blank, kind, ordinal, pages, epoch, back, zeros, entryTag};
 ghost use Rattle.spare.specs.Fields.{tag, fields, seen, blankFrom};
 
 // What the erased bytes of a blank page read as.
@@ -202,6 +202,39 @@ pub fn seen_at(spare: &[u8], page: usize) -> Seen
     let start = page * 16;
     let end = start + 16;
     seen_in(&spare[start..end])
+}
+
+// Whether a page is blank.
+pub fn blank_at(spare: &[u8], page: usize) -> bool
+    requires { ⌜ page * 16 + 16 ≤ length (now spare) ⌝ }
+    ensures { λ r. ⌜ r ≡ blank (part (now (spare .entry)) (page * 16) 16) ⌝ }
+{
+    let start = page * 16;
+    let end = start + 16;
+    is_blank(&spare[start..end])
+}
+
+// Whether sixteen spare bytes are those of an entry of the erase ledger, for some bucket and some epoch: all other bytes are fixed.
+fn entry_bytes(bytes: &[u8]) -> bool
+    requires { ⌜ length (now bytes) ≡ 16 ⌝ }
+    ensures { λ r. ⌜ r ≡ same (now (bytes .entry)) (entryTag (epoch (now (bytes .entry))) (back (now (bytes .entry)))) ⌝ }
+{
+    let log = (bytes[0] == model::LEDGER_KIND)
+        & (bytes[1] == 0)
+        & (bytes[2] == 1)
+        & (bytes[3] == 0);
+    let range = (bytes[12] == 0) & (bytes[13] == 0) & (bytes[14] == 0) & (bytes[15] == 0);
+    log & (bytes[10] == 0) & (bytes[11] == 0) & range
+}
+
+// Whether a page is such an entry.
+pub fn entry_at(spare: &[u8], page: usize) -> bool
+    requires { ⌜ page * 16 + 16 ≤ length (now spare) ⌝ }
+    ensures { λ r. ⌜ r ≡ (same (part (now (spare .entry)) (page * 16) 16) (entryTag (epoch (part (now (spare .entry)) (page * 16) 16)) (back (part (now (spare .entry)) (page * 16) 16)))) ⌝ }
+{
+    let start = page * 16;
+    let end = start + 16;
+    entry_bytes(&spare[start..end])
 }
 
 // Whether the zero bytes of sixteen spare bytes are zero.

@@ -1,7 +1,10 @@
 -- A step that follows another is carried out from where that one left off.
-use mathlib.Core.Path.{_≡_, refl, ap, sym, _∙_, subst}
+use mathlib.Core.Path.{_≡_, ap, sym, _∙_, subst}
+use mathlib.Core.Bool.{true, false}
 use mathlib.Core.Logic.{_⊎_, inl, inr}
 use mathlib.Core.List.{List, _++_}
+use Rattle.lists.specs.Lists.{empty}
+use Rattle.lists.proofs.Tests.{true-or-false}
 use Rattle.model.specs.declared.Sizes.{Sizes}
 use Rattle.model.specs.Sizes.{Device}
 use Rattle.model.specs.Stores.{Store, applyAll}
@@ -21,7 +24,12 @@ then-steady f g first second t d e = second (f t d .state) _ (applyAll (t .sizes
 
 pub room-steady : (z : Sizes) → Steady (makeRoom z)
 unfolding makeRoom eraseStep nothing
-room-steady z t d e = refl
+room-steady z t d e = go (true-or-false (empty (t .free))) (true-or-false (empty (t .gc)))
+  where
+    go : (empty (t .free) ≡ true) ⊎ (empty (t .free) ≡ false) → (empty (t .gc) ≡ true) ⊎ (empty (t .gc) ≡ false) → makeRoom z t d .state ≡ makeRoom z t e .state
+    go (inr f) g = rw f
+    go (inl f) (inl g) = rw (f, g)
+    go (inl f) (inr g) = rw (f, g)
 
 module _ (z : Sizes) (f g : Step) (steady : Steady g) (s : State) (r : Run) where
   -- all stores of the first step are made, or the run is cut and no store changes it any more

@@ -15,7 +15,7 @@ pub struct Turn {
     pub state: State,
 }
 
-// The GC head, if there is one, is erased.
+// The GC head, if there is one, is erased, and before it noted in the ledger.
 pub fn erase_step(
     meter: Meter,
     s: State,
@@ -33,7 +33,7 @@ pub fn erase_step(
         return Turn { meter, state: s };
     }
     let head = s.gc.head() as usize;
-    let left = meter::erase_bucket(meter, s.sizes, head, flash, spare, disk);
+    let left = noted::erase_noted(meter, s.sizes, head, flash, spare, disk);
     let state = s.freed();
     Turn { meter: left, state }
 }

@@ -4,7 +4,7 @@ use mathlib.Core.Path.{_≡_}
 use mathlib.Core.Bool.{true}
 use mathlib.Core.List.{List}
 use Rattle.model.specs.Sizes.{bucketSize}
-use Rattle.model.specs.Image.{wellFormed, used, blanks}
+use Rattle.model.specs.Image.{bodyFits, used, blanks}
 use Rattle.model.specs.State.{State, holds, cacheOf, blankOf}
 use Rattle.model.specs.Operations.{lastEpoch}
 use Rattle.image.specs.Chip.{spareOnly}
@@ -15,7 +15,7 @@ use Rattle.copying.specs.Fresh.{Single}
 pub record Yields (s : State) (spare : List ℕ) : Type 0 where
   pub ready : Ready s
   pub single : Single s
-  pub well-formed : wellFormed (s .sizes) (spareOnly spare) ≡ true
+  pub well-formed : bodyFits (s .sizes) (spareOnly spare) ≡ true
   pub backs : (k : ℕ) → holds k (s .writes) ≡ true → k < s .sizes .b
   pub epochs : s .next ≤ lastEpoch
 

@@ -1,5 +1,5 @@
 use Rattle.checks.proofs.Opens.{Image, image-opens}
-use Rattle.rules.proofs.SameSpare.{same-well-formed}
+use Rattle.rules.proofs.SameSpare.{same-body-fits}
 use Rattle.geometry.proofs.Places.{nth-inside}
 use Rattle.geometry.specs.Geometry.{device}
 use Rattle.model.specs.Sizes.{bucketSize, diskSize}
@@ -42,7 +42,7 @@ slice-aggregate-merges c = simp length-take (omega (arith, inside (c .before .be
 merges-requires : tie.Need-merges-requires
 unfolding bucketSize
 merges-requires c κs = let a = c .before .before .before .before .before .before .before .before .before .before .before .args in let o = opened (c .before .before .before .before .before) in (
-  record { limits = o .limits; flash-length = o .lent .flash-length; spare-length = o .lent .spare-length; well-formed = same-well-formed (a .z) (device (a .flash .now) (a .spare .now) (a .disk .now)) ∙ o .formed },
+  record { limits = o .limits; flash-length = o .lent .flash-length; spare-length = o .lent .spare-length; well-formed = same-body-fits (a .z) (device (a .flash .now) (a .spare .now) (a .disk .now)) ∙ o .formed },
   (simp length-take (omega (arith, inside (c .before .before .before .before .before))), omega (arith, c .before .before .before .if2 .left, c .before .before .if3 .left)),
 )
 

@@ -4,7 +4,7 @@ use mathlib.Core.Path.{_≡_, sym, _∙_}
 use native.Mathlib.Omega.{arith}
 use Rattle.geometry.specs.Geometry.{device}
 use Rattle.model.specs.Calls.{lentTests, runningTests}
-use Rattle.model.specs.Image.{wellFormed}
+use Rattle.model.specs.Ledger.{wellFormed}
 use Rattle.model.specs.State.{stateFits}
 use Rattle.state.specs.View.{viewOf}
 use Rattle.fits.proofs.SameSpare.{same-fits}

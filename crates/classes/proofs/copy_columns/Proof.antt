@@ -16,14 +16,14 @@ fill-requires c κs = search needs
 
 last-of-each-requires : tie.Need-last-of-each-requires
 last-of-each-requires c κs = let s = c .before .before .before .before .before .before .before .before .before .before in
-    omega (arith, c .before .before .copies .given, s .pre .1 .1 .1 .1 .0, ap length (s .pre .1 .1 .0), order-short (s .args .z) (spareOnly (s .args .spare .now)), s .pre .0 .limits .body-high, s .pre .0 .limits .c-high)
+    omega (arith, c .before .before .copies .given, s .pre .1 .1 .1 .1 .0, ap length (s .pre .1 .1 .0), order-short (s .args .z) (spareOnly (s .args .spare .now)), s .pre .0 .limits .ledger-in, s .pre .0 .limits .c-high)
 
 all-occurring-requires : tie.Need-all-occurring-requires
 all-occurring-requires c κs = let s = c .before .before .before .before .before .before .before .before .before .before .before .before .before .before .before in
     let z = s .args .z in
     let d = spareOnly (s .args .spare .now) in
     let n = ap length (s .pre .1 .1 .1 .0) ∙ length-map (inOrder z d) (named z d (isDroppedWrite z d)) in (
-      omega (arith, n, order-short z d, s .pre .0 .limits .body-high, s .pre .0 .limits .c-high),
+      omega (arith, n, order-short z d, s .pre .0 .limits .ledger-in, s .pre .0 .limits .c-high),
       omega (arith, c .before .before .before .copies2 .given, c .before .before .before .before .before .before .before .copies .given, s .pre .1 .1 .1 .1 .0, s .pre .1 .1 .1 .1 .1),
     )
 

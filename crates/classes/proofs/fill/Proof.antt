@@ -25,7 +25,7 @@ shared-slice-read-c : tie.Need-shared-slice-read-c Inv-loop μ-loop
 shared-slice-read-c c = omega arith
 
 cast-c : tie.Need-cast-c Inv-loop μ-loop
-cast-c c = let s = c .before .before .before .before .before .before in omega (arith, order-below (s .args .z) (spareOnly (s .args .spare .now)) (s .pre .1 .1 .0) (c .before .before .loop .i) (c .before .loop-test .taken), s .pre .0 .limits .body-high, s .pre .0 .limits .c-high)
+cast-c c = let s = c .before .before .before .before .before .before in omega (arith, order-below (s .args .z) (spareOnly (s .args .spare .now)) (s .pre .1 .1 .0) (c .before .before .loop .i) (c .before .loop-test .taken), s .pre .0 .limits .ledger-in, s .pre .0 .limits .c-high)
 
 named-requires : tie.Need-named-requires Inv-loop μ-loop
 named-requires c κs = let s = c .before .before .before .before .before .before in let l = c .before .before .loop in

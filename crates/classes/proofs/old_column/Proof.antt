@@ -29,7 +29,7 @@ shared-slice-read-old-back : tie.Need-shared-slice-read-old-back Inv-loop μ-loo
 shared-slice-read-old-back c = omega arith
 
 cast-old-back : tie.Need-cast-old-back Inv-loop μ-loop
-cast-old-back c = let s = c .before .before .before .before .before .before .before in omega (arith, order-below (s .args .z) (spareOnly (s .args .spare .now)) (s .pre .1 .1 .0) (c .before .before .loop .i) (c .before .loop-test .taken), s .pre .0 .limits .body-high, s .pre .0 .limits .c-high)
+cast-old-back c = let s = c .before .before .before .before .before .before .before in omega (arith, order-below (s .args .z) (spareOnly (s .args .spare .now)) (s .pre .1 .1 .0) (c .before .before .loop .i) (c .before .loop-test .taken), s .pre .0 .limits .ledger-in, s .pre .0 .limits .c-high)
 
 mul-old-back : tie.Need-mul-old-back Inv-loop μ-loop
 mul-old-back c = search needs

@@ -15,7 +15,7 @@ fill-requires c κs = search needs
 all-occurring-requires : tie.Need-all-occurring-requires
 all-occurring-requires c κs = let s = c .before .before .before .before .before .before .before .before .before .before in
     let n = ap length (s .pre .1 .1 .0) in (
-      omega (arith, c .before .before .before .writes .given, s .pre .1 .1 .1 .0, n, order-short (s .args .z) (spareOnly (s .args .spare .now)), s .pre .0 .limits .body-high, s .pre .0 .limits .c-high),
+      omega (arith, c .before .before .before .writes .given, s .pre .1 .1 .1 .0, n, order-short (s .args .z) (spareOnly (s .args .spare .now)), s .pre .0 .limits .ledger-in, s .pre .0 .limits .c-high),
       omega (arith, c .before .before .before .writes .given, s .pre .1 .1 .1 .0, s .pre .1 .1 .1 .1),
     )
 

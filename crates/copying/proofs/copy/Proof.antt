@@ -42,7 +42,7 @@ erase-room-requires c κs =
     let start = c .before .before .before .before .before .before .before .before .before .before .before .before in
     let a = start .args in
     let d = device (a .flash .now) (a .spare .now) (a .disk .now) in
-    (start .pre .0, rw (c .before .before .before .before .before .before .before .before .room-of .ensures) (room-inside (a .s .sizes) (placesOf (a .s)) d (start .pre .1 .0 .0 .ready)))
+    (start .pre .0, (start .pre .1 .1 .limits, rw (c .before .before .before .before .before .before .before .before .room-of .ensures) (room-inside (a .s .sizes) (placesOf (a .s)) d (start .pre .1 .0 .0 .ready))))
 
 log-in-requires : tie.Need-log-in-requires
 log-in-requires c κs = search needs

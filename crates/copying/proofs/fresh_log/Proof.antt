@@ -1,6 +1,6 @@
 use native.Mathlib.Omega.{arith}
 use lib.ListN.{length}
-use Rattle.model.proofs.Limits.{pages-fit}
+use Rattle.model.proofs.Limits.{on-chip, pages-fit}
 use Rattle.meter.proofs.Runs.{run-append}
 use Rattle.copying.specs.Fresh.{freshStores}
 use borrow.Author.Needs.{needs}
@@ -21,7 +21,7 @@ program-log-requires c κs =
       rw (c .before .before .before .log-in .ensures)
           (record {
             limits = takes .limits;
-            bucket = takes .bucket;
+            bucket = on-chip _ _ (takes .bucket);
             some = takes .some;
             room = omega (arith, pages-fit (start .args .z) (length (start .args .bytes .now)) (omega (arith, takes .limits .s-low)) (takes .most));
           }),

@@ -1,14 +1,16 @@
 use lib.Dec.{leb, ltb}
-use borrow.Author.Needs.{needs}
 use Rattle.lists.proofs.Tests.{every-four}
 use Rattle.model.specs.State.{topEpoch}
 use Rattle.image.specs.Chip.{spareOnly}
+use Rattle.image.proofs.First.{formed-headed}
+use Rattle.ledger.proofs.Pages.{formed-body, formed-entries}
 use Rattle.fits.specs.Fits.{numbersFit}
 use Rattle.fits.proofs.numbers_fit.Statement.{statement}
 use Rattle.fits.proofs.numbers_fit.Tie as tie
 
 top-epoch-requires : tie.Need-top-epoch-requires
-top-epoch-requires c κs = search needs
+top-epoch-requires c κs = let o = c .before in let z = o .args .s .sizes in let d = spareOnly (o .args .spare .now) in
+    (o .pre .0, (formed-headed z d (o .pre .0 .limits .p-low) (formed-body z d (o .pre .1)), formed-entries z d (o .pre .1)))
 
 returns : tie.Need-returns
 unfolding numbersFit

@@ -1,23 +1,20 @@
 use Rattle.outcome.proofs.Ends.{handed-taken, handed-refused}
-use Rattle.rules.proofs.SameSpare.{same-well-formed}
-use Rattle.checks.proofs.Opens.{image-opens}
+use Rattle.checks.proofs.Opens.{found-opens}
 use Rattle.model.specs.Calls.{recoverCall, tests, refusal, planOf, lentBuffer}
 use Rattle.geometry.specs.Geometry.{device}
-use mathlib.Core.Path.{refl, _∙_}
+use mathlib.Core.Path.{refl}
 use borrow.Author.Needs.{needs}
 use Rattle.state.specs.View.{viewOf}
 use Rattle.recover.proofs.recover.Statement.{statement}
 use Rattle.recover.proofs.recover.Tie as tie
 
-image-refusal-requires : tie.Need-image-refusal-requires
-image-refusal-requires c κs = search needs
+recover-refusal-requires : tie.Need-recover-refusal-requires
+recover-refusal-requires c κs = search needs
 
 recover-chip-requires : tie.Need-recover-chip-requires
 recover-chip-requires c κs =
     let a = c .before .before .before .before .before .before .before .before .before .before .before .args in
-    let d = device (a .flash .now) (a .spare .now) (a .disk .now) in
-    let opened = image-opens (a .z) d (rw (c .before .before .before .before .image-refusal .ensures) at (c .before .before .before .if1 .taken)) in
-    record { limits = opened .limits; lent = opened .lent; well-formed = same-well-formed (a .z) d ∙ opened .formed }
+    found-opens (a .z) (device (a .flash .now) (a .spare .now) (a .disk .now)) (rw (c .before .before .before .before .recover-refusal .ensures) at (c .before .before .before .if1 .taken))
 
 refused-requires : tie.Need-refused-requires
 refused-requires c κs = search needs
@@ -34,11 +31,11 @@ same-length-3 c = search needs
 returns : tie.Need-returns
 unfolding tests refusal planOf
 returns c =
-    let image-refusal = c .before .before .before .before .before .before .before .before .before .before .before .image-refusal in
+    let recover-refusal = c .before .before .before .before .before .before .before .before .before .before .before .recover-refusal in
     let if1 = c .before .before .before .before .before .before .before .before .before .before .if1 in
     let a = c .before .before .before .before .before .before .before .before .before .before .before .before .before .before .before .before .before .before .args in
     let d = device (a .flash .now) (a .spare .now) (a .disk .now) in
-    rw (c .before .before .before .before .before .before .recover-chip .ensures) (handed-taken (a .allowance) (recoverCall (a .z)) (a .s) (viewOf (a .s)) d refl (rw (image-refusal .ensures) at (if1 .taken)))
+    rw (c .before .before .before .before .before .before .recover-chip .ensures) (handed-taken (a .allowance) (recoverCall (a .z)) (a .s) (viewOf (a .s)) d refl (rw (recover-refusal .ensures) at (if1 .taken)))
 
 same-length-4 : tie.Need-same-length-4
 same-length-4 c = search needs
@@ -54,13 +51,13 @@ unfolding tests refusal lentBuffer
 returns-2 c =
     let a = c .before .before .before .before .before .before .before .before .before .args in
     let d = device (a .flash .now) (a .spare .now) (a .disk .now) in
-    rw (c .refused .ensures) (handed-refused (a .allowance) (recoverCall (a .z)) (a .s) (viewOf (a .s)) d (c .before .before .image-refusal .result) (rw (c .before .before .image-refusal .ensures)) (c .before .if1 .left))
+    rw (c .refused .ensures) (handed-refused (a .allowance) (recoverCall (a .z)) (a .s) (viewOf (a .s)) d (c .before .before .recover-refusal .result) (rw (c .before .before .recover-refusal .ensures)) (c .before .if1 .left))
 
 pub recover-spec : {M : Type 1} → statement M
 recover-spec =
     tie.close
     (tie.spec
-    image-refusal-requires
+    recover-refusal-requires
     recover-chip-requires
     refused-requires
     same-length

@@ -1,12 +1,10 @@
 use mathlib.Core.Path.{_≡_}
-use native.Mathlib.Omega.{arith}
 use Rattle.model.proofs.Formed.{formed-of}
-use Rattle.model.specs.Recover.{byEpoch, isChosen, isDroppedWrite, isDroppedCopy, keptCopies, keptWrites, recover}
+use Rattle.model.specs.Recover.{byEpoch, isChosen, isDroppedWrite, isDroppedCopy, keptCopies, keptWrites, rebuilt}
 use Rattle.model.specs.Image.{isWrite}
 use Rattle.image.specs.Chip.{spareOnly}
-use Rattle.recover.specs.Kept.{differing}
+use Rattle.recover.specs.Kept.{differing, retired}
 use Rattle.recover.proofs.Queues.{order-within, column-length, kept-copies, kept-writes, few-copies, few-writes}
-use Rattle.recover.proofs.Epochs.{top-fits}
 use borrow.Author.Needs.{needs}
 use Rattle.recover.proofs.recovered.Statement.{statement}
 use Rattle.recover.proofs.recovered.Tie as tie
@@ -34,16 +32,9 @@ retired-requires c κs = let s = c .before .before .before .before .before .befo
 buckets-requires : tie.Need-buckets-requires
 buckets-requires c κs = search needs
 
-top-epoch-requires : tie.Need-top-epoch-requires
-top-epoch-requires c κs = let s = c .before .before .before .before .before .before .before .before .before .before in (s .pre .0, s .pre .1 .0)
-
-add-t13 : tie.Need-add-t13
-add-t13 c = let s = c .before .before .before .before .before .before .before .before .before .before .before in
-    omega (arith, c .top-epoch .ensures, top-fits (s .args .z) (s .pre .0 .limits .p-low) (s .args .spare .now) (λ i. omega (arith, c .before .before .before .before .before .shared-slice-known6 .given i)))
-
 returns : tie.Need-returns
-unfolding recover
-returns c = let s = c .before .before .before .before .before .before .before .before .before .before .before in rw (c .before .before .before .before .kept-queue .ensures, copies-kept s, c .before .before .before .kept-queue2 .ensures, writes-kept s, c .before .before .retired .ensures, c .before .buckets .ensures, c .top-epoch .ensures)
+unfolding rebuilt retired
+returns c = let s = c .before .before .before .before .before .before .before .before .before .before in rw (c .before .before .before .kept-queue .ensures, copies-kept s, c .before .before .kept-queue2 .ensures, writes-kept s, c .before .retired .ensures, c .buckets .ensures)
 
 pub recovered-spec : {M : Type 1} → statement M
 recovered-spec =
@@ -53,6 +44,4 @@ recovered-spec =
     kept-queue-requires-2
     retired-requires
     buckets-requires
-    top-epoch-requires
-    add-t13
     returns)

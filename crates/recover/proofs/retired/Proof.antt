@@ -20,7 +20,7 @@ use Rattle.recover.proofs.retired.Tie as tie
 
 -- the order has a place in a column
 short : (s : tie.Start) → length (s .args .order .now) ≤ 256
-short s = omega (arith, ap length (s .pre .1 .1 .0), order-short (s .args .z) (spareOnly (s .args .spare .now)), s .pre .0 .limits .body-high, s .pre .0 .limits .c-high)
+short s = omega (arith, ap length (s .pre .1 .1 .0), order-short (s .args .z) (spareOnly (s .args .spare .now)), s .pre .0 .limits .ledger-in, s .pre .0 .limits .c-high)
 
 -- and a column is as long as the order
 beside : (s : tie.Start) (t : ℕ → Bool) → length (column (s .args .z) (spareOnly (s .args .spare .now)) t) ≡ length (s .args .order .now)
@@ -85,17 +85,17 @@ gather-requires : tie.Need-gather-requires
 gather-requires c κs = let s = c .before .before .before .before .before .before .before .before .before .before .before in let z = s .args .z in let d = spareOnly (s .args .spare .now) in
     let old = again s (c .before .before .before .old-column .ensures) (c .before .before .before .before .before .blank-column .result) in
     let first = ap (λ (l : List ℕ). length (picked l (s .args .order .now))) old ∙ ap length (listed s (isOldCopy z d)) ∙ ap length (picked-old z d (s .pre .0 .limits) (formed-of z d (s .pre .1 .0))) in
-    (ap length old ∙ beside s (isOldCopy z d), omega (arith, ap (λ (q : Fifo). length (listOf q)) (c .empty .ensures), first, gc-fits z d, s .pre .0 .limits .body-high, s .pre .0 .limits .c-high))
+    (ap length old ∙ beside s (isOldCopy z d), omega (arith, ap (λ (q : Fifo). length (listOf q)) (c .empty .ensures), first, gc-fits z d, s .pre .0 .limits .ledger-in, s .pre .0 .limits .c-high))
 
 gather-requires-2 : tie.Need-gather-requires-2
 gather-requires-2 c κs = let s = c .before .before .before .before .before .before .before .before .before .before .before .before in let z = s .args .z in let d = spareOnly (s .args .spare .now) in
     let second = copies-listed s in
-    (ap length (s .pre .1 .1 .1 .1 .1) ∙ beside s (isDroppedCopy z d), omega (arith, ap length (first-is s (c .before .before .before .before .old-column .ensures) (c .before .before .before .before .before .before .blank-column .result) (c .before .empty .ensures) (c .gather .ensures)), ap length second, gc-fits z d, s .pre .0 .limits .body-high, s .pre .0 .limits .c-high))
+    (ap length (s .pre .1 .1 .1 .1 .1) ∙ beside s (isDroppedCopy z d), omega (arith, ap length (first-is s (c .before .before .before .before .old-column .ensures) (c .before .before .before .before .before .before .blank-column .result) (c .before .empty .ensures) (c .gather .ensures)), ap length second, gc-fits z d, s .pre .0 .limits .ledger-in, s .pre .0 .limits .c-high))
 
 gather-requires-3 : tie.Need-gather-requires-3
 gather-requires-3 c κs = let s = c .before .before .before .before .before .before .before .before .before .before .before .before .before in let z = s .args .z in let d = spareOnly (s .args .spare .now) in
     let first = first-is s (c .before .before .before .before .before .old-column .ensures) (c .before .before .before .before .before .before .before .blank-column .result) (c .before .before .empty .ensures) (c .before .gather .ensures) in
-    (ap length (s .pre .1 .1 .1 .0) ∙ beside s (isDroppedWrite z d), omega (arith, ap length (c .gather2 .ensures), length-append (listOf (c .before .gather .result)) (picked (s .args .dropped-copies .now) (s .args .order .now)), ap length first, ap length (copies-listed s), ap length (writes-listed s), gc-fits z d, s .pre .0 .limits .body-high, s .pre .0 .limits .c-high))
+    (ap length (s .pre .1 .1 .1 .0) ∙ beside s (isDroppedWrite z d), omega (arith, ap length (c .gather2 .ensures), length-append (listOf (c .before .gather .result)) (picked (s .args .dropped-copies .now) (s .args .order .now)), ap length first, ap length (copies-listed s), ap length (writes-listed s), gc-fits z d, s .pre .0 .limits .ledger-in, s .pre .0 .limits .c-high))
 
 returns : tie.Need-returns
 returns c =

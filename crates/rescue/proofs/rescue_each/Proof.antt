@@ -4,8 +4,9 @@ use mathlib.Core.Bool.{true}
 use native.Mathlib.Omega.{arith}
 use lib.ListN.{length}
 use Rattle.model.specs.Sizes.{diskSize}
-use Rattle.model.specs.Recover.{isRescued, recover}
+use Rattle.model.specs.Recover.{isRescued}
 use Rattle.geometry.specs.Geometry.{device}
+use Rattle.rescue.specs.Sources.{rescues}
 use Rattle.rescue.proofs.Bytes.{same-rescued, readable-of}
 use Rattle.rescue.proofs.Reached.{next-high, next-low, next-rescued, none-between, Reached, reached-first, reached-more}
 use Rattle.rescue.proofs.rescue_each.Statement.{statement}
@@ -93,7 +94,7 @@ same-length c =
     omega (arith, c .before .loop .inv .1, start .pre .0 .lent .disk-length)
 
 returns : tie.Need-returns Inv-loop μ-loop
-unfolding recover
+unfolding rescues
 returns c =
     let start = c .before .before .before .before .before .before .before .before .before .before .before in
     let l = c .before .loop in

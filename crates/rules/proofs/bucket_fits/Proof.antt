@@ -1,4 +1,5 @@
-use Rattle.rules.proofs.Buckets.{bucket-split, bucket-inside}
+use Rattle.image.proofs.Place.{bucket-inside}
+use Rattle.rules.proofs.Buckets.{bucket-split}
 use mathlib.Core.Path.{sym, _∙_}
 use native.Mathlib.Omega.{arith}
 use borrow.Author.Needs.{needs}

@@ -18,7 +18,7 @@ told : (o : tie.Start) → ((i : ℕ) → (getD (o .args .before .now) i 0 < 256
     ≡ (fieldsFit (o .args .z) (o .args .page .now) && follows (o .args .before .now) (o .args .page .now))
 told o bytes t e = let b = o .args .before .now in let p = o .args .page .now in let q = o .pre .1 in
     ap (λ (s : Bool). s && logGoes (o .args .z) b p) (sym e)
-    ∙ later-test (o .args .z) (omega (arith, o .pre .0 .s-low)) b p (q .1 .1) (q .0) (q .1 .0) (λ i h. bytes i)
+    ∙ later-test (o .args .z) b p (q .1 .1) (q .0) (q .1 .0) (λ i h. bytes i)
 
 same-bucket-requires : tie.Need-same-bucket-requires
 same-bucket-requires c κs = search needs

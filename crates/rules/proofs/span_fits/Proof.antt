@@ -3,7 +3,6 @@ use lib.ListN.{length}
 use Rattle.rules.proofs.Buckets.{span-one, span-split, span-inside}
 use Rattle.rules.specs.Pages.{fitsFrom}
 use Rattle.image.specs.Chip.{spareOnly}
-use Rattle.model.specs.Sizes.{body}
 use Rattle.lists.specs.Lists.{allBelow}
 use mathlib.Core.Path.{_≡_, sym, ap, _∙_}
 use native.Mathlib.Omega.{arith}
@@ -12,8 +11,7 @@ use Rattle.rules.proofs.span_fits.Statement.{statement}
 use Rattle.rules.proofs.span_fits.Tie as tie
 
 inside : (c : tie.Start) → (c .args .c * c .args .z .p + (c .args .e - c .args .c) * c .args .z .p) * 16 ≤ length (c .args .spare .now)
-unfolding body
-inside c = span-inside (c .pre .0) (c .args .c) (c .args .e) (omega (arith, c .pre .1 .some)) (c .pre .1 .within)
+inside c = span-inside (c .pre .0) (c .args .c) (c .args .e) (omega (arith, c .pre .1 .some)) (omega (arith, c .pre .1 .within, c .pre .0 .limits .ledger-in))
 
 add-if1 : tie.Need-add-if1
 add-if1 c = search needs

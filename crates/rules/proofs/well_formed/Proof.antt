@@ -1,24 +1,18 @@
-use Rattle.model.specs.Image.{wellFormed}
-use borrow.Author.Tests.{not-true, not-false}
-use mathlib.Core.Path.{sym, _∙_}
+use Rattle.model.specs.Ledger.{wellFormed}
+use Rattle.lists.specs.Lists.{every}
 use borrow.Author.Needs.{needs}
 use Rattle.rules.proofs.well_formed.Statement.{statement}
 use Rattle.rules.proofs.well_formed.Tie as tie
 
-buckets-fit-requires : tie.Need-buckets-fit-requires
-buckets-fit-requires c κs = search needs
+body-fits-requires : tie.Need-body-fits-requires
+body-fits-requires c κs = search needs
+
+ledger-fits-requires : tie.Need-ledger-fits-requires
+ledger-fits-requires c κs = search needs
 
 returns : tie.Need-returns
-unfolding wellFormed
-returns c = rw (sym (c .before .buckets-fit .ensures) ∙ not-true _ (c .if1 .taken))
-
-epochs-differ-requires : tie.Need-epochs-differ-requires
-epochs-differ-requires c κs = (c .before .before .before .pre, sym (c .before .buckets-fit .ensures) ∙ not-false _ (c .if1 .left))
-
-returns-2 : tie.Need-returns-2
-unfolding wellFormed
-returns-2 c = rw (sym (c .before .before .buckets-fit .ensures) ∙ not-false _ (c .before .if1 .left)) (c .epochs-differ .ensures)
+unfolding wellFormed every
+returns c = rw (c .before .body-fits .ensures, c .ledger-fits .ensures)
 
 pub well-formed-spec : {M : Type 1} → statement M
-well-formed-spec =
-    tie.close (tie.spec buckets-fit-requires returns epochs-differ-requires returns-2)
+well-formed-spec = tie.close (tie.spec body-fits-requires ledger-fits-requires returns)

@@ -5,7 +5,6 @@ use Rattle.state.specs.View.{placesOf}
 use Rattle.fifo.specs.View.{listOf}
 use Rattle.meter.specs.Run.{runAll}
 use Rattle.model.specs.Sizes.{body}
-use Rattle.model.proofs.Limits.{on-chip}
 use Rattle.model.specs.Steps.{eraseStep, nothing}
 use Rattle.lists.proofs.Arrays.{empty-length}
 use Rattle.lists.specs.Lists.{empty}
@@ -30,12 +29,12 @@ head-requires c κs = search needs
 cast-head : tie.Need-cast-head
 cast-head c = search needs
 
-erase-bucket-requires : tie.Need-erase-bucket-requires
-erase-bucket-requires c κs =
+erase-noted-requires : tie.Need-erase-noted-requires
+erase-noted-requires c κs =
     let start = c .before .before .before .before .before .before .before .before .before in
     let s = start .args .s in
     let some : empty (listOf (s .gc)) ≡ false = empty-length (listOf (s .gc)) ∙ ne-eqb _ _ (λ z. c .before .before .before .before .if1 .left (c .before .before .before .before .before .used .ensures .0 ∙ z)) in
-    (start .pre .0, rw (c .before .before .before .head .ensures) (on-chip (s .sizes) _ (head-below (body (s .sizes)) (listOf (s .gc)) (start .pre .1 .gc) some)))
+    (start .pre .0, (start .pre .1 .limits, rw (c .before .before .before .head .ensures) (head-below (body (s .sizes)) (listOf (s .gc)) (start .pre .1 .gc) some)))
 
 freed-requires : tie.Need-freed-requires
 freed-requires c κs =
@@ -63,7 +62,7 @@ returns-2 c =
     let head = c .before .before .before .before .before .before .before .before .before .before .before .head in
     let gc = listOf (start .args .s .gc) in
     let some : empty gc ≡ false = empty-length gc ∙ ne-eqb _ _ (λ z. if1 .left (used .ensures .0 ∙ z)) in
-    (rw (c .before .before .before .before .before .before .before .erase-bucket .ensures .0, c .freed .ensures, head .ensures, some), c .before .before .before .before .before .before .before .erase-bucket .ensures .1)
+    (rw (c .before .before .before .before .before .before .before .erase-noted .ensures .0, c .freed .ensures, head .ensures, some), c .before .before .before .before .before .before .before .erase-noted .ensures .1)
 
 pub erase-step-spec : {M : Type 1} → statement M
 erase-step-spec =
@@ -73,7 +72,7 @@ erase-step-spec =
     returns
     head-requires
     cast-head
-    erase-bucket-requires
+    erase-noted-requires
     freed-requires
     same-length
     same-length-2

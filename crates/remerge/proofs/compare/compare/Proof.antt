@@ -1,5 +1,5 @@
 use Rattle.checks.proofs.Opens.{image-opens}
-use Rattle.rules.proofs.SameSpare.{same-well-formed}
+use Rattle.rules.proofs.SameSpare.{same-body-fits}
 use Rattle.geometry.specs.Geometry.{device}
 use mathlib.Core.Path.{_∙_}
 use borrow.Author.Needs.{needs}
@@ -19,7 +19,7 @@ compare-all-requires : tie.Need-compare-all-requires
 compare-all-requires c κs = let a = c .before .before .before .before .before .args in
     let d = device (a .flash .now) (a .spare .now) (a .disk .now) in
     let opened = image-opens (a .z) d (rw (c .before .image-refusal .ensures) at (c .if1 .left)) in
-    (record { limits = opened .limits; flash-length = opened .lent .flash-length; spare-length = opened .lent .spare-length; well-formed = same-well-formed (a .z) d ∙ opened .formed }, opened .lent .disk-length)
+    (record { limits = opened .limits; flash-length = opened .lent .flash-length; spare-length = opened .lent .spare-length; well-formed = same-body-fits (a .z) d ∙ opened .formed }, opened .lent .disk-length)
 
 returns-2 : tie.Need-returns-2
 returns-2 c = search needs

@@ -6,10 +6,10 @@ use Rattle.restart.proofs.cuts.cut_all.Statement.{statement}
 use Rattle.restart.proofs.cuts.cut_all.Tie as tie
 
 abbrev Inv-loop : tie.InvT-loop
-Inv-loop z flash₀ spare₀ disk₀ i₀ flash spare disk i = (i ≤ 6) × (length flash ≡ length flash₀) × (length spare ≡ length spare₀) × (length disk ≡ length disk₀)
+Inv-loop z flash₀ spare₀ disk₀ i₀ flash spare disk i = (i ≤ 7) × (length flash ≡ length flash₀) × (length spare ≡ length spare₀) × (length disk ≡ length disk₀)
 
 abbrev μ-loop : tie.MeasureT-loop
-μ-loop z flash₀ spare₀ disk₀ i₀ flash spare disk i = 6 - i
+μ-loop z flash₀ spare₀ disk₀ i₀ flash spare disk i = 7 - i
 
 loop-holds : tie.Need-loop-holds Inv-loop μ-loop
 loop-holds c = search needs
