@@ -1,5 +1,6 @@
-// The old merge and the new one on the same buckets. Chips of several sizes are made by the engine's calls alone; after each call the Write
-// buckets of every back-end bucket are merged by either, over the disk's bytes and over a cache bucket's, in several windows.
+// The old merge and the new one on the same buckets. Chips of several sizes are made by the engine's calls and by erases that cuts stop halfway;
+// after each call the Write buckets of every back-end bucket are merged by either, over the disk's bytes and over a cache bucket's, in several
+// windows.
 mod calls;
 mod compare;
 mod listed;
@@ -7,6 +8,7 @@ mod old;
 mod random;
 mod sizes;
 mod tally;
+mod tear;
 mod windows;
 mod within;
 
@@ -17,7 +19,7 @@ ghost use Rattle.model.proofs.Limits.{Limits};
 // Calls on each chip.
 const CALLS: usize = 300;
 
-// The calls, and after each the comparison.
+// The calls; after a cut one an erase is torn, and after each comes the comparison.
 fn compare_chips(z: Sizes, flash: &mut [u8], spare: &mut [u8], disk: &mut [u8]) -> Tally
     requires { ⌜ Limits z ⌝ }
 {
@@ -26,6 +28,7 @@ fn compare_chips(z: Sizes, flash: &mut [u8], spare: &mut [u8], disk: &mut [u8]) 
     let mut i = 0;
     while i < CALLS {
         run = calls::step(run, z, flash, spare, disk);
+        tally = tally.and(tear::after_call(run.cut, z, run.seed, flash, spare, disk));
         tally = tally.and(compare::compare(z, run.seed, flash, spare, disk));
         i += 1;
     }

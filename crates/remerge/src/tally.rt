@@ -11,6 +11,8 @@ pub struct Tally {
     pub several: usize,
     // logs on the Write buckets of the merges that were begun and have no end
     pub abandoned: usize,
+    // erases that stopped halfway
+    pub torn: usize,
     pub bytes: usize,
     pub differing: usize,
 }
@@ -31,6 +33,7 @@ impl Tally {
             one: 0,
             several: 0,
             abandoned: 0,
+            torn: 0,
             bytes: 0,
             differing: 0,
         }
@@ -43,6 +46,7 @@ impl Tally {
             one: sum(self.one, other.one),
             several: sum(self.several, other.several),
             abandoned: sum(self.abandoned, other.abandoned),
+            torn: sum(self.torn, other.torn),
             bytes: sum(self.bytes, other.bytes),
             differing: sum(self.differing, other.differing),
         }
@@ -72,6 +76,7 @@ pub fn compared(buckets: usize, one: &[u8], other: &[u8]) -> Tally
         one: as_number(buckets == 1),
         several: as_number(1 < buckets),
         abandoned: 0,
+        torn: 0,
         bytes: one.len(),
         differing: differing(one, other),
     }
@@ -81,6 +86,12 @@ pub fn compared(buckets: usize, one: &[u8], other: &[u8]) -> Tally
 pub fn seen(abandoned: usize) -> Tally {
     let mut tally = Tally::empty();
     tally.abandoned = abandoned;
+    tally
+}
+
+pub fn torn(erases: usize) -> Tally {
+    let mut tally = Tally::empty();
+    tally.torn = erases;
     tally
 }
 
@@ -102,6 +113,7 @@ pub fn print(tally: Tally) {
     print_number(b", one ", tally.one);
     print_number(b", several ", tally.several);
     print_number(b"; abandoned logs ", tally.abandoned);
+    print_number(b"; torn erases ", tally.torn);
     print_number(b"; bytes ", tally.bytes);
     print_number(b", differing ", tally.differing);
     io::write_all(1, b"\n");

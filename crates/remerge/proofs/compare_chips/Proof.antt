@@ -24,20 +24,32 @@ loop-holds c = search needs
 step-requires : tie.Need-step-requires Inv-loop μ-loop
 step-requires c κs = search needs
 
-compare-requires : tie.Need-compare-requires Inv-loop μ-loop
-compare-requires c κs = search needs
+after-call-requires : tie.Need-after-call-requires Inv-loop μ-loop
+after-call-requires c κs = search needs
 
 and-requires : tie.Need-and-requires Inv-loop μ-loop
 and-requires c κs = search needs
 
+compare-requires : tie.Need-compare-requires Inv-loop μ-loop
+compare-requires c κs = search needs
+
+and-requires-2 : tie.Need-and-requires-2 Inv-loop μ-loop
+and-requires-2 c κs = search needs
+
 add-i : tie.Need-add-i Inv-loop μ-loop
-add-i c = search needs
+add-i c = omega (arith, c .before .before .before .before .before .before .before .before .before .before .before .before .before .before .before .before .before .before .before .before .before .before .before .before .loop-test .taken)
 
 loop-less : tie.Need-loop-less Inv-loop μ-loop
-loop-less c = search needs
+loop-less c = omega (arith, c .before .before .before .before .before .before .before .before .before .before .before .before .before .before .before .before .before .before .before .before .before .before .before .before .loop-test .taken)
 
 loop-again : tie.Need-loop-again Inv-loop μ-loop
-loop-again c = let l = c .before .before .before .before .before .before .before .before .before .before .before .before .before .before .before .before .loop in (omega (arith, c .before .before .before .before .before .before .before .before .before .before .before .before .before .before .before .loop-test .taken), omega (arith, c .before .before .before .before .before .before .before .before .before .before .flash2 .given, l .inv .1), omega (arith, c .before .before .before .before .before .before .before .before .spare2 .given, l .inv .2), omega (arith, c .before .before .before .before .before .before .disk2 .given, l .inv .3))
+loop-again c =
+    let l = c .before .before .before .before .before .before .before .before .before .before .before .before .before .before .before .before .before .before .before .before .before .before .before .before .before .loop in (
+      omega (arith, c .before .before .before .before .before .before .before .before .before .before .before .before .before .before .before .before .before .before .before .before .before .before .before .before .loop-test .taken),
+      omega (arith, c .before .before .before .before .before .before .before .before .before .flash3 .given, c .before .before .before .before .before .before .before .before .before .before .before .before .before .before .before .before .before .before .before .flash2 .given, l .inv .1),
+      omega (arith, c .before .before .before .before .before .before .before .spare3 .given, c .before .before .before .before .before .before .before .before .before .before .before .before .before .before .before .before .before .spare2 .given, l .inv .2),
+      omega (arith, c .before .before .before .before .before .before .before .before .before .before .before .before .before .before .before .disk2 .given, l .inv .3),
+    )
 
 same-length : tie.Need-same-length Inv-loop μ-loop
 same-length c = search needs
@@ -61,8 +73,10 @@ compare-chips-spec =
     begin-requires
     loop-holds
     step-requires
-    compare-requires
+    after-call-requires
     and-requires
+    compare-requires
+    and-requires-2
     add-i
     loop-less
     loop-again
