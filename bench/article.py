@@ -85,15 +85,19 @@ def kinds_of(request, stores):
     """Erases, programs and disk units among the stores of a request.
 
     Once the first bucket had to be erased none is free beforehand, so every
-    allocation erases one. A write that evicts allocates for its log alone when
-    the merged bytes go to the disk or a copy has them already, and once more
-    when they become a copy.
+    allocation erases one, behind an entry in the erase ledger; a ledger bucket
+    that hands over is erased too, at most one in a call. A write that evicts
+    allocates for its log alone when the merged bytes go to the disk or a copy
+    has them already, and once more when they become a copy.
     """
     if request.is_read:
-        return {0: (0, 0, 0), P + 1: (1, P, 0), 2 * P + 1: (1, P, P)}[stores]
-    log = request.pages
-    erases, programs, units = {0: (0, 0, 0), 1: (1, 0, 0), P + 1: (1, 0, P), P + 2: (2, P, 0)}[stores - log]
-    return erases, log + programs, units
+        log, ways = 0, {0: (0, 0, 0), P + 2: (1, P + 1, 0), 2 * P + 2: (1, P + 1, P)}
+    else:
+        log, ways = request.pages, {0: (0, 0, 0), 2: (1, 1, 0), P + 2: (1, 1, P), P + 4: (2, P + 2, 0)}
+    others = stores - log
+    hand_over = others not in ways
+    erases, programs, units = ways[others - hand_over]
+    return erases + hand_over, log + programs, units
 
 
 def engine_counts(program, requests, first):
