@@ -56,7 +56,7 @@ leftOf (other part) d e = d
 
 -- ---- an erase that stops halfway
 
--- a page "blank (data and spare FF)"
+-- "blank": data and spare bytes FF, as an erase sets them
 unfoldable pub blankPage : Sizes → Device → (c k : ℕ) → Device
 blankPage z d c k = apply z d (program c k (ff (z .s)) (ff 16))
 
