@@ -2,7 +2,7 @@
 
 from inputs.calls import queued
 from inputs.form import BLANK, QUEUES, SPARE
-from inputs.images import EPOCH_END, LAST_EPOCH, entry_for, ledger_entry, tear
+from inputs.images import EPOCH_END, LAST_EPOCH, entry_for, ledger_entry, spoiled, tear
 
 
 def forge_state(rng, situation):
@@ -121,7 +121,7 @@ def moved(rng, situation):
         return
     entry = queue.pop(rng.randrange(len(queue)))
     to = rng.choice(list(QUEUES))
-    on_chip = entry["bucket"] < situation.sizes.C and situation.spare(entry["bucket"], 0)
+    on_chip = entry["bucket"] < situation.sizes.C and situation.first(entry["bucket"])
     back_end = on_chip["back_end"] if on_chip else rng.randrange(situation.sizes.B)
     new = entry_for(to, entry["bucket"], back_end, rng.randint(0, situation.sizes.P), rng.choice([0, 0, 1]))
     situation.queue(to).insert(rng.randint(0, len(situation.queue(to))), new)
@@ -218,8 +218,8 @@ def copied(rng, situation):
 def noted(rng, situation):
     """A page of the ledger, most often the one that comes next, has an entry for some bucket, most often of its epoch."""
     z, bucket = situation.sizes, rng.randrange(queued(situation.sizes))
-    used = situation.used(bucket)
-    epoch = situation.spare(bucket, used[0])["epoch"] if used and rng.random() < 0.8 else rng.choice([0, 1, LAST_EPOCH])
+    first = situation.first(bucket)
+    epoch = first["epoch"] if first and rng.random() < 0.8 else rng.choice([0, 1, LAST_EPOCH])
     in_use = max(situation.ledger(), key=lambda c: len(situation.used(c)))
     page = min(len(situation.used(in_use)), z.P - 1)
     if rng.random() < 0.3:
@@ -245,6 +245,23 @@ def ledger_field(rng, situation):
         situation.change(*place, **{name: near(rng, situation, place, name, width)})
 
 
+def stopped(rng, situation):
+    """A page whose program stopped halfway: any one, or the next of its bucket; like another page of it."""
+    bucket, page = rng.choice(list(situation.pages))
+    used = situation.used(bucket)
+    if rng.random() < 0.5:
+        page = min(len(used), situation.sizes.P - 1)
+    like = situation.spare(bucket, rng.choice(used)) if used else None
+    situation.put(bucket, page, spoiled(rng, like))
+
+
+def spent(rng, situation):
+    """Some buckets of which nothing but spoiled pages is left."""
+    for bucket in rng.sample(range(situation.sizes.C), rng.randint(1, 3)):
+        for page in situation.used(bucket) or [0]:
+            situation.put(bucket, page, spoiled(rng, situation.spare(bucket, page)))
+
+
 def some_page(rng, situation):
     """A page whose spare area has fields to change."""
     places = [place for place, (spare, _) in situation.pages.items() if spare != BLANK]
@@ -261,4 +278,5 @@ def near(rng, situation, place, name, width):
 
 
 PAGE_CHANGES = [a_field, a_field, some_fields, a_bucket_field, a_bucket_field, a_bucket_epoch, a_byte,
-                some_data, blanked, cut_short, copied, noted, torn, torn, ledger_torn, ledger_field]
+                some_data, blanked, cut_short, copied, noted, torn, torn, ledger_torn, ledger_field,
+                stopped, stopped, stopped, spent]

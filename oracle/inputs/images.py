@@ -1,7 +1,7 @@
 """Images made up by the page rules, and states that fit them."""
 
 from inputs.calls import queued
-from inputs.form import BLANK, QUEUES, spare_text
+from inputs.form import BLANK, QUEUES, SPARE, SPOILED, spare_text
 from inputs.situation import formatted
 
 READ, WRITE, DIRTY, ENTRY = 1, 2, 3, 4
@@ -24,6 +24,21 @@ def ledger_entry(bucket, epoch):
     """The spare area of an entry for a bucket."""
     spare, = log(ENTRY, epoch, bucket, 0, 1, 1)
     return spare
+
+
+def spoiled(rng, like):
+    """The spare area of a page whose program stopped halfway: like the page that it should be, or with any bytes."""
+    other = {name: rng.randrange(2 ** (8 * width)) for name, width in SPARE}
+    return {**rng.choice([like or other, other]), "kind": SPOILED}
+
+
+def with_spoiled(rng, z, spares):
+    """Pages of a bucket where a program stopped halfway: its log ends, and only another one goes on behind it."""
+    at = rng.randint(0, len(spares))
+    like = spares[min(at, len(spares) - 1)] if spares else None
+    pages = [spoiled(rng, like) for _ in range(rng.choice([1, 1, 2, z.P]))]
+    starts = [page for page in range(at, len(spares)) if spares[page]["ordinal"] == 0]
+    return (spares[:at] + pages + spares[min(starts, default=len(spares)):])[:z.P]
 
 
 def any_log(rng, z, epoch, back_end, pages):
@@ -68,10 +83,11 @@ def made_up(rng, z):
     """An image by the page rules with a state to it; of few back-end buckets, which meet often, or of many."""
     situation = formatted(z)
     back_ends = [rng.randrange(z.B) for _ in range(rng.choice([rng.randint(1, 4), z.C // 2, 2 * z.B]))]
-    writes = rng.choice([0.3, 0.5, 0.8])
+    writes, stopped = rng.choice([0.3, 0.5, 0.8]), rng.choice([0, 0.1, 0.4])
     for bucket, epoch in enumerate(some_epochs(rng, queued(z))):
-        fill(rng, situation, bucket, any_bucket(rng, z, epoch, rng.choice(back_ends), writes))
-    any_ledger(rng, situation, rng.choice([0, 0, 0.3, 1]))
+        spares = any_bucket(rng, z, epoch, rng.choice(back_ends), writes)
+        fill(rng, situation, bucket, with_spoiled(rng, z, spares) if rng.random() < stopped else spares)
+    any_ledger(rng, situation, rng.choice([0, 0, 0.3, 1]), stopped)
     if rng.random() < 0.5:
         odd_blanks(rng, situation)
     queue_up(rng, situation)
@@ -80,15 +96,17 @@ def made_up(rng, z):
     return situation
 
 
-def any_ledger(rng, situation, named):
-    """Entries on the first pages of one ledger bucket; so many of them name a bucket by its epoch."""
+def any_ledger(rng, situation, named, stopped):
+    """Entries on the first pages of one ledger bucket; so many of them name a bucket by its epoch, and so many were
+    programs that stopped halfway."""
     z, spares = situation.sizes, []
     for _ in range(rng.choice([0, z.P, rng.randint(0, z.P)])):
         bucket = rng.randrange(queued(z))
-        first = situation.spare(bucket, 0)
+        first = situation.first(bucket)
         epoch = first["epoch"] if first else 0
         others = [other for other in (0, *situation.epochs()) if other != epoch]
-        spares.append(ledger_entry(bucket, epoch if rng.random() < named else rng.choice(others or [0])))
+        entry = ledger_entry(bucket, epoch if rng.random() < named else rng.choice(others or [0]))
+        spares.append(spoiled(rng, entry) if rng.random() < stopped else entry)
     fill(rng, situation, rng.choice(situation.ledger()), spares)
 
 
@@ -143,13 +161,12 @@ def mark_some(rng, situation):
 
 def wanted_queue(situation, bucket):
     """The queue that a bucket belongs to by its pages, and its back-end bucket."""
-    spares = [spare for spare in situation.spares(bucket) if spare is not None]
-    if not spares:
-        return "free", None
-    back_end = spares[0]["back_end"]
-    if spares[0]["kind"] == WRITE:
-        return "writes", back_end
-    return ("reads" if len(spares) == situation.sizes.P else "gc"), back_end
+    first = situation.first(bucket)
+    if not first:
+        return ("gc" if situation.used(bucket) else "free"), None
+    if first["kind"] == WRITE:
+        return "writes", first["back_end"]
+    return ("reads" if len(situation.programmed(bucket)) == situation.sizes.P else "gc"), first["back_end"]
 
 
 def entry_for(queue, bucket, back_end, priority, mark=0, blank=0):

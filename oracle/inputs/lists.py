@@ -48,7 +48,8 @@ def cut_in_turn(rng, ask):
         for cut in some_cuts(rng, z):
             turn.append(cut)
             turn += torn(rng, ask, z, turn)
-        lines += turn + [call(0x06, PLENTY), "11"]
+        # A drain lays on the disk what reads would give.
+        lines += turn + [call(0x06, PLENTY), "11"] + rng.choice([[], [call(0x05, PLENTY)]])
         lines += [show_unit(back_end, rng.randrange(z.P)) for back_end in range(z.B)]
     return lines
 

@@ -6,9 +6,9 @@ Each takes the generator, the rich situation and the copy of it that is changed.
 from functools import partial
 
 from inputs.calls import queued
-from inputs.form import BLANK, spare_text
-from inputs.images import DIRTY, EPOCH_END, LAST_EPOCH, READ, WRITE, any_log, ledger_entry, log
-from inputs.state_clauses import need, next_place, unused_epoch
+from inputs.form import BLANK, SPOILED, spare_text
+from inputs.images import DIRTY, EPOCH_END, LAST_EPOCH, READ, WRITE, any_log, ledger_entry, log, spoiled
+from inputs.state_clauses import need, next_place, spoil, unused_epoch
 
 WRITTEN = ["second copy", "second write", "third copy", "part of copy", "short logs", "long log"]
 
@@ -162,7 +162,7 @@ def kind_changes(rng, rich, s):
 
 def shared_epoch(rng, rich, s):
     one, two = rng.sample(WRITTEN + ["copy", "over disk"], 2)
-    epoch = s.spare(rich.buckets[one], 0)["epoch"]
+    epoch = s.first(rich.buckets[one])["epoch"]
     for page in s.used(rich.buckets[two]):
         s.change(rich.buckets[two], page, epoch=epoch)
 
@@ -172,6 +172,55 @@ def last_epoch(rng, rich, s):
     need(LAST_EPOCH not in s.epochs())
     every_page(lambda _: {"epoch": LAST_EPOCH}, rng, rich, s)
     s.state.values["epoch"] = EPOCH_END
+
+
+# Spoiled pages
+
+def spoiled_short_log(rng, rich, s):
+    """Well formed: what is behind it begins a log."""
+    spoil(rng, s, rich.buckets["short logs"], rng.randrange(s.sizes.P))
+
+
+def spoiled_page(role, rng, rich, s):
+    """Well formed if it is the last one in use: else its log goes on behind it."""
+    bucket = rich.buckets[role]
+    spoil(rng, s, bucket, rng.choice(s.used(bucket)))
+
+
+def behind_spoiled(ordinals, rng, rich, s):
+    """Pages of a log by their ordinals, and spoiled ones among them that may look like its others."""
+    need(s.sizes.P >= len(ordinals))
+    pages = long_log_from(rich, s, 3 if 2 in ordinals else 2)
+    pages_of_long_log([spoiled(rng, pages[min(place, len(pages) - 1)]) if ordinal is None else pages[ordinal]
+                       for place, ordinal in enumerate(ordinals)], rich, s)
+
+
+def copy_behind(anew, rng, rich, s):
+    """A copy behind a spoiled page, which fits; and one that begins again there."""
+    need(s.sizes.P > (2 if anew else 1))
+    bucket = rich.buckets["second copy"]
+    at = rng.randrange(1, s.sizes.P - 1) if anew else 0
+    for page in range(at + 1, s.sizes.P):
+        s.change(bucket, page, ordinal=page - at - 1)
+    spoil(rng, s, bucket, at)
+
+
+def only_spoiled(rng, rich, s):
+    for page in range(rng.randint(1, s.sizes.P)):
+        spoil(rng, s, rich.buckets["blank"], page)
+
+
+def spoiled_after_blank(rng, rich, s):
+    bucket = rich.buckets[rng.choice(["blank", "long log"])]
+    first = len(s.used(bucket)) + 1
+    need(first < s.sizes.P)
+    spoil(rng, s, bucket, rng.randrange(first, s.sizes.P))
+
+
+def spoiled_shared(field, rng, rich, s):
+    """Well formed: a spoiled page looks as if it had the epoch of another bucket, or not the fields of its own."""
+    value = s.first(rich.buckets[rng.choice(WRITTEN)])[field]
+    spoil(rng, s, rich.buckets[rng.choice(["blank", "short logs"])], 0, **{field: value})
 
 
 # The erase ledger
@@ -208,13 +257,45 @@ def hole_in_ledger(rng, _, s):
     s.put(bucket, page, ledger_entry(rng.randrange(queued(s.sizes)), 0))
 
 
+def spoiled_entry(rng, _, s):
+    """Well formed, whatever entry it looks like."""
+    back_end = rng.choice([*range(s.sizes.C), 65535])
+    spoil(rng, s, *next_place(s), ordinal=0, pages=1, back_end=back_end, epoch=LAST_EPOCH)
+
+
+def spoiled_after_hole(rng, _, s):
+    """Recovery takes it."""
+    need(s.sizes.P > 1)
+    bucket, page = rng.choice(s.ledger()), rng.randrange(1, s.sizes.P)
+    s.put(bucket, page - 1, None)
+    spoil(rng, s, bucket, page)
+
+
+def named_by_spoiled(_, rich, s):
+    """A bucket with a hole, and only a spoiled page that looks like its entry."""
+    need(s.sizes.P > 1)
+    bucket = rich.buckets["short logs"]
+    s.put(*next_place(s), {**ledger_entry(bucket, s.first(bucket)["epoch"]), "kind": SPOILED})
+    s.put(bucket, 0, None)
+
+
+def named_with_spoiled(rng, rich, s):
+    """A bucket with a hole and its entry, and a spoiled page that looks like one of another epoch."""
+    need(s.sizes.P > 1)
+    bucket = rich.buckets["short logs"]
+    (hole, page), own = rng.sample(range(s.sizes.P), 2), s.first(bucket)["epoch"]
+    spoil(rng, s, bucket, page, epoch=own ^ 256)
+    s.put(bucket, hole, None)
+    s.put(*next_place(s), ledger_entry(bucket, own))
+
+
 def named(clause, rng, rich, s):
     """The same in a bucket that an entry names: recovery takes holes and any ordinals, and nothing else."""
     clause(rng, rich, s)
     changed = {place[0] for place, page in s.pages.items() if page != rich.situation.pages[place]}
     for bucket in sorted(changed):
-        programmed = s.used(bucket)
-        epoch = s.spare(bucket, rng.choice(programmed))["epoch"] if programmed else 0
+        pages = s.programmed(bucket) or s.used(bucket)
+        epoch = s.spare(bucket, rng.choice(pages))["epoch"] if pages else 0
         s.put(*next_place(s), ledger_entry(bucket, epoch))
 
 
@@ -268,6 +349,14 @@ BY_BUCKET = [
     partial(page_of_copy, lambda s: {"length": whole(s) - 2}),
     begins_anew,
     shared_epoch, shared_epoch, last_epoch,
+    # Spoiled pages
+    spoiled_short_log, spoiled_short_log, only_spoiled, spoiled_after_blank,
+    *(partial(spoiled_page, role) for role in ("long log", "second copy", "part of copy")),
+    *(partial(behind_spoiled, ordinals) for ordinals in (
+        [None, 0], [None, 1], [0, None], [0, None, 0], [0, None, 1], [0, None, 2], [None, None, 0], [0, 1, None],
+        [0, 0, None], [None, 0, 1])),
+    *(partial(copy_behind, anew) for anew in (False, True)),
+    *(partial(spoiled_shared, field) for field in ("epoch", "back_end")),
 ]
 LEDGER = [
     *(partial(entry_bit, place) for place in range(16)),
@@ -276,5 +365,6 @@ LEDGER = [
     partial(entry, lambda s: {"epoch": LAST_EPOCH}),
     *(partial(entry, lambda s, kind=kind: {"kind": kind}) for kind in (0, READ, WRITE, DIRTY, 5, 255)),
     entry_elsewhere, log_in_ledger, hole_in_ledger, hole_in_ledger, named_by_others,
+    spoiled_entry, spoiled_after_hole, named_by_spoiled, named_with_spoiled, named_with_spoiled,
 ]
 CLAUSES = BY_BUCKET + LEDGER + [partial(named, clause) for clause in BY_BUCKET]

@@ -2,7 +2,7 @@
 
 from inputs.calls import Sizes, queued
 from inputs.images import (DIRTY, EPOCH_END, READ, WRITE, any_ledger, any_log, any_logs, copy_of, entry_for, fill, log,
-                           some_epochs)
+                           some_epochs, spoiled, with_spoiled)
 from inputs.situation import formatted
 
 
@@ -29,6 +29,18 @@ def long_log(_, z, epoch, back_end):
     return log(WRITE, epoch, back_end, 0, pages * z.S, pages)
 
 
+def logs_and_spoiled(rng, z, epoch, back_end):
+    """Logs behind a spoiled page, or with such pages between them, if there is room."""
+    pages = any_logs(rng, z, epoch, back_end)
+    stopped = with_spoiled(rng, z, pages)
+    return stopped if any(page["kind"] == WRITE for page in stopped) else pages
+
+
+def spoiled_pages(rng, z, epoch, back_end):
+    """Like pages of a copy, and no programmed one."""
+    return [spoiled(rng, page) for page in part_of_copy(rng, z, epoch, back_end)]
+
+
 def no_pages(*_):
     return []
 
@@ -38,13 +50,14 @@ ROLES = {
     "copy": ("reads", 0, any_copy),
     "dirty": ("reads", 1, dirty_copy),
     "over copy": ("writes", 0, any_logs),
-    "over disk": ("writes", 2, any_logs),
+    "over disk": ("writes", 2, logs_and_spoiled),
     "second copy": ("gc", 0, any_copy),
     "second write": ("gc", 2, any_logs),
     "third copy": ("gc", 3, any_copy),
     "part of copy": ("gc", 3, part_of_copy),
     "short logs": ("gc", 3, short_logs),
     "long log": ("gc", 3, long_log),
+    "spent": ("gc", 3, spoiled_pages),
     "blank": ("gc", 3, no_pages),
 }
 
@@ -64,7 +77,7 @@ class Rich:
         self.back_ends = rng.sample(range(rng.choice([0, 1]), z.B), 4)
         for (role, (_, _, pages)), epoch in zip(ROLES.items(), some_epochs(rng, z.C)):
             fill(rng, self.situation, self.buckets[role], pages(rng, z, epoch, self.back_end(role)))
-        any_ledger(rng, self.situation, 0)
+        any_ledger(rng, self.situation, 0, 0.2)
         self.queue_up(rng)
 
     def back_end(self, role):

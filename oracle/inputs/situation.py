@@ -1,7 +1,7 @@
 """What a state and a chip hold together, and the lines that put it there."""
 
 from inputs.calls import PLENTY, queued
-from inputs.form import BLANK, SIZES, SPARE_DIGITS, State, fields, parse_spare, spare_text
+from inputs.form import BLANK, SIZES, SPARE_DIGITS, SPOILED, State, fields, parse_spare, spare_text
 
 
 def format_line(z, allowance=PLENTY):
@@ -29,9 +29,6 @@ class Situation:
     def spare(self, bucket, page):
         return parse_spare(self.pages[bucket, page][0])
 
-    def spares(self, bucket):
-        return [self.spare(bucket, page) for page in range(self.sizes.P)]
-
     def put(self, bucket, page, spare):
         """Changes a page's spare bytes, given as fields or as digits."""
         text = spare if isinstance(spare, str) else spare_text(spare)
@@ -44,6 +41,14 @@ class Situation:
         """The pages of a bucket that are not blank."""
         return [page for page in range(self.sizes.P) if self.pages[bucket, page][0] != BLANK]
 
+    def programmed(self, bucket):
+        """The pages of a bucket that are neither blank nor spoiled."""
+        return [page for page in self.used(bucket) if self.spare(bucket, page)["kind"] != SPOILED]
+
+    def first(self, bucket):
+        """The fields of the first programmed page, if there is one."""
+        return next((self.spare(bucket, page) for page in self.programmed(bucket)), None)
+
     def recount(self):
         """Each record of the write queue keeps the count of blank pages that its bucket has, if that is there."""
         for entry in self.queue("writes"):
@@ -52,12 +57,13 @@ class Situation:
 
     def epochs(self):
         """The epochs on the chip, those of the ledger's entries too."""
-        firsts = [(bucket, 0) for bucket in range(queued(self.sizes)) if 0 in self.used(bucket)]
-        return [self.spare(*place)["epoch"] for place in firsts + self.entries()]
+        firsts = [self.first(bucket) for bucket in range(queued(self.sizes))]
+        entries = [self.spare(*place) for place in self.entries()]
+        return [spare["epoch"] for spare in firsts + entries if spare]
 
     def entries(self):
-        """The pages of the erase ledger that are not blank."""
-        return [(bucket, page) for bucket in self.ledger() for page in self.used(bucket)]
+        """The programmed pages of the erase ledger."""
+        return [(bucket, page) for bucket in self.ledger() for page in self.programmed(bucket)]
 
     def ledger(self):
         return range(queued(self.sizes), self.sizes.C)

@@ -6,7 +6,7 @@ Each takes the generator, the rich situation and the copy of it that is changed.
 from functools import partial
 
 from inputs.calls import queued
-from inputs.images import EPOCH_END, any_log, entry_for, ledger_entry, mark_some
+from inputs.images import EPOCH_END, LAST_EPOCH, any_log, entry_for, ledger_entry, mark_some, spoiled
 from inputs.rich import ROLES
 
 
@@ -131,6 +131,44 @@ def last_page_blank(rng, rich, s):
     s.put(rich.buckets[rng.choice(["copy", "dirty"])], s.sizes.P - 1, None)
 
 
+def spoil(rng, s, bucket, page, **values):
+    """A page is spoiled, like what it was or with any bytes; these are sure."""
+    s.put(bucket, page, {**spoiled(rng, s.spare(bucket, page)), **values})
+
+
+def spoiled_in_copy(rng, rich, s):
+    """The last page of a queued copy, so that number 4 has nothing against it."""
+    spoil(rng, s, rich.buckets[rng.choice(["copy", "dirty"])], s.sizes.P - 1)
+
+
+def copy_behind_spoiled(rng, rich, s):
+    """A queued copy begins behind a spoiled page; all pages are used, and its last one is not there."""
+    bucket = rich.buckets[rng.choice(["copy", "dirty"])]
+    for page in range(s.sizes.P - 1, 0, -1):
+        s.pages[bucket, page] = s.pages[bucket, page - 1]
+    spoil(rng, s, bucket, 0)
+
+
+def spoiled_in_free(rng, _, s):
+    spoil(rng, s, rng.choice(s.queue("free"))["bucket"], 0)
+
+
+def spoiled_next(counted, rng, _, s):
+    """The next page of a queued Write bucket is spoiled, which its count of blank pages tells or not."""
+    roomy = [entry for entry in s.queue("writes") if entry["blank"]]
+    need(roomy)
+    bucket = rng.choice(roomy)["bucket"]
+    spoil(rng, s, bucket, len(s.used(bucket)))
+    if counted:
+        s.recount()
+
+
+def spoiled_epoch(rng, rich, s):
+    """Spoiled pages have no epoch, whatever they look like."""
+    spoil(rng, s, rich.buckets["blank"], 0, epoch=LAST_EPOCH)
+    spoil(rng, s, *next_place(s), epoch=LAST_EPOCH)
+
+
 def page_in_free(rng, rich, s):
     spare, = any_log(rng, s.sizes, unused_epoch(s), rich.back_ends[0], 1)
     s.put(rng.choice(s.queue("free"))["bucket"], 0, spare)
@@ -189,7 +227,7 @@ def epoch_above_highest(more, _, __, s):
 def next_epoch_present(rng, _, s):
     """A bucket of GC has the next epoch already."""
     need(s.state.values["epoch"] < EPOCH_END)
-    bucket = rng.choice([entry["bucket"] for entry in s.queue("gc") if s.used(entry["bucket"])])
+    bucket = rng.choice([entry["bucket"] for entry in s.queue("gc") if s.programmed(entry["bucket"])])
     for page in s.used(bucket):
         s.change(bucket, page, epoch=s.state.values["epoch"])
 
@@ -210,9 +248,12 @@ def entry_epoch(less, rng, _, s):
     s.put(*next_place(s), ledger_entry(rng.randrange(queued(s.sizes)), epoch))
 
 
-def two_in_use(rng, _, s):
+def two_in_use(stopped, rng, _, s):
+    """By entries, or by programs of entries that stopped halfway."""
     for bucket in s.ledger():
         s.put(bucket, 0, ledger_entry(rng.randrange(queued(s.sizes)), 0))
+        if stopped:
+            spoil(rng, s, bucket, 0)
 
 
 def other_in_use(_, __, s):
@@ -242,7 +283,10 @@ CLAUSES = [
     partial(moved, "part of copy", "writes"),
     *(partial(other_back_end, queue, beyond) for queue in ("reads", "writes") for beyond in (False, True)),
     *(partial(blank_queued, queue) for queue in ("reads", "writes")),
+    *(partial(moved, "spent", queue) for queue in ("reads", "writes", "free")),
     incomplete, last_page_blank, page_in_free,
+    spoiled_in_copy, copy_behind_spoiled, spoiled_in_free, spoiled_epoch,
+    *(partial(spoiled_next, counted) for counted in (False, True)),
     *(partial(moved, role, "free") for role in ("third copy", "short logs", "part of copy")),
     *(partial(marked, role) for role in ("over copy", "over disk")),
     *(partial(copy_not_queued, mark) for mark in (0, 1)),
@@ -254,5 +298,6 @@ CLAUSES = [
     *(partial(count, value) for value in (15, 16, 255)),
     *(partial(epoch, value) for value in (0, EPOCH_END, EPOCH_END + 1, 2 ** 63, 2 ** 64 - 1)),
     *(partial(epoch_above_highest, more) for more in (0, 1, EPOCH_END + 1)),
-    next_epoch_present, *(partial(entry_epoch, less) for less in (0, 1)), two_in_use, other_in_use, unchanged,
+    next_epoch_present, *(partial(entry_epoch, less) for less in (0, 1)),
+    *(partial(two_in_use, stopped) for stopped in (False, True)), other_in_use, unchanged,
 ]

@@ -66,15 +66,12 @@ impl<'a> Device<'a> {
         Ok(())
     }
 
-    /// The epoch of a bucket as it is now; 0 if it is blank.
+    /// The epoch of a bucket as it is now; 0 if no page of it is programmed.
     pub fn epoch_of(&self, bucket: u8) -> u32 {
         let first_page = usize::from(bucket) * self.sizes.bucket_pages;
-        let spare = Spare::of(&areas(&self.lent.spare)[first_page]);
-        if spare.is_blank() {
-            0
-        } else {
-            spare.epoch()
-        }
+        let pages = &areas(&self.lent.spare)[first_page..][..self.sizes.bucket_pages];
+        let mut pages = pages.iter().map(Spare::of);
+        pages.find(|p| p.is_programmed()).map_or(0, Spare::epoch)
     }
 
     /// Programs a ledger's page with an entry; its data is FF throughout.

@@ -1,11 +1,11 @@
 //! What recovery finds: erases may have stopped halfway, in buckets that the ledger names
-//! and in the ledger itself.
+//! and in the ledger itself, and programs anywhere.
 
 use crate::device::{Cut, Device};
 use crate::ledger::ledger_areas;
 use crate::sizes::{Sizes, MOST_BUCKETS};
 use crate::spare::{areas, Area, Spare};
-use crate::survey::{look_at, Look, Survey};
+use crate::survey::{look_at, Look, Survey, Used};
 
 pub struct Found {
     pub survey: Survey,
@@ -30,7 +30,7 @@ impl Found {
             if let Some((bucket, epoch)) = page.as_entry(sizes) {
                 survey.take_epoch(epoch);
                 named[usize::from(bucket)] |= is_named_by(pages_of(sizes, spare, bucket), epoch);
-            } else if !page.is_blank() {
+            } else if page.is_programmed() {
                 return false;
             }
         }
@@ -62,16 +62,19 @@ fn pages_of<'s>(sizes: &Sizes, spare: &'s [u8], bucket: u8) -> &'s [Area] {
     &areas(spare)[usize::from(bucket) * sizes.bucket_pages..][..sizes.bucket_pages]
 }
 
-/// Whether none of a bucket's pages holds another epoch than its entry.
+/// Whether none of a bucket's programmed pages holds another epoch than its entry.
 fn is_named_by(pages: &[Area], epoch: u32) -> bool {
     let mut pages = pages.iter().map(Spare::of);
-    pages.all(|page| page.is_blank() || page.epoch() == epoch)
+    pages.all(|page| !page.is_programmed() || page.epoch() == epoch)
 }
 
 /// Looks at one named bucket; `None` when its programmed pages break the rules. Which of
 /// its pages are programmed, and their ordinals, are not among these.
 fn look_at_torn(sizes: &Sizes, pages: &[Area]) -> Option<Look> {
-    let programmed = pages.iter().map(Spare::of).filter(|page| !page.is_blank());
+    let programmed = pages
+        .iter()
+        .map(Spare::of)
+        .filter(|page| page.is_programmed());
     let Some(first) = programmed.clone().next() else {
         return Some(Look::BLANK);
     };
@@ -79,7 +82,8 @@ fn look_at_torn(sizes: &Sizes, pages: &[Area]) -> Option<Look> {
     let good = |page: Spare| page.same_bucket(first) && page.kind_if_good(sizes).is_some();
     programmed.clone().all(good).then(|| Look {
         kind,
-        used: programmed.count() as u8,
+        // It is erased before anyone asks which of its pages are spoiled.
+        used: Used::new(programmed.count(), false),
         back_end: first.back_end(),
         epoch: first.epoch(),
     })

@@ -5,7 +5,8 @@ use crate::device::{Cut, Device};
 use crate::sizes::{Sizes, LEDGER_BUCKETS};
 use crate::spare::{areas, Area, Spare};
 
-/// How many pages of each ledger bucket are programmed.
+/// How many pages of each ledger bucket are used: entries, and spoiled pages that name
+/// nothing.
 #[derive(Clone, Copy, Default)]
 pub struct Ledger {
     pub used: [usize; LEDGER_BUCKETS],

@@ -18,7 +18,7 @@ impl Orders {
     /// Each order is sorted as numbers, with the bucket in the low byte.
     pub fn new(sizes: &Sizes, survey: &Survey) -> Orders {
         let buckets = sizes.outside_ledger();
-        let occupied = buckets.filter(|&bucket| !survey[bucket].is_blank());
+        let occupied = buckets.filter(|&bucket| survey[bucket].is_occupied());
         let mut keys: List<u64, MOST_BUCKETS> = occupied
             .map(|bucket| u64::from(survey[bucket].epoch) << 8 | u64::from(bucket))
             .collect();

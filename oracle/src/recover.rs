@@ -134,13 +134,16 @@ impl<'s> Plan<'s> {
         };
         // Copies before Write buckets: an old copy must never outlive newer logs.
         let gc = [Fate::Stale, Fate::DroppedCopy, Fate::DroppedWrite];
+        let retired = gc.into_iter().flat_map(with);
         let is_blank = |&bucket: &u8| self.survey[bucket].is_blank();
+        let is_spent = |&bucket: &u8| self.survey[bucket].is_spent();
+        let spent = self.sizes.outside_ledger().filter(is_spent);
         State {
             sizes: self.sizes,
             running: true,
             reads: with(Fate::KeptCopy).map(|b| self.read_entry(b)).collect(),
             writes: with(Fate::KeptWrite).map(|b| self.write_entry(b)).collect(),
-            gc: gc.into_iter().flat_map(with).collect(),
+            gc: spent.chain(retired).collect(),
             free: self.sizes.outside_ledger().filter(is_blank).collect(),
             write_count: 0,
             next_epoch: self.survey.next_epoch,

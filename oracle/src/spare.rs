@@ -12,10 +12,10 @@ pub fn areas(spare: &[u8]) -> &[Area] {
     spare.as_chunks().0
 }
 
-/// What a bucket holds: nothing, or what the state byte of its pages says.
+/// What a bucket holds: nothing, or what the state byte of its programmed pages says.
 #[derive(Clone, Copy, Debug, PartialEq, Eq)]
 pub enum Kind {
-    Blank = 0,
+    Nothing = 0,
     Read = 1,
     Write = 2,
     Dirty = 3,
@@ -53,6 +53,8 @@ pub struct Spare(u128);
 
 impl Spare {
     const BLANK: Spare = Spare(u128::MAX);
+    /// The state that the chip reports of a page whose program stopped halfway.
+    const SPOILED: u8 = 0;
     /// One more in the ordinal.
     const ORDINAL: u128 = 1 << 8;
     /// State, zero bytes, epoch and back-end bucket: alike in all pages of a bucket.
@@ -102,6 +104,15 @@ impl Spare {
         self == Spare::BLANK
     }
 
+    /// Whether the page is spoiled: it is used, and its other bytes mean nothing.
+    pub fn is_spoiled(self) -> bool {
+        self.byte(0) == Spare::SPOILED
+    }
+
+    pub fn is_programmed(self) -> bool {
+        !self.is_blank() && !self.is_spoiled()
+    }
+
     fn byte(self, place: usize) -> u8 {
         (self.0 >> (8 * place)) as u8
     }
@@ -146,9 +157,10 @@ impl Spare {
         is_entry.then(|| (bucket as u8, self.epoch()))
     }
 
-    /// If this page completes its log, how many pages before it the log began.
+    /// If this used page completes its log, how many pages before it the log began.
     pub fn completes(self) -> Option<usize> {
-        (self.ordinal() + 1 == self.count()).then(|| self.ordinal())
+        let is_last = self.ordinal() + 1 == self.count() && !self.is_spoiled();
+        is_last.then(|| self.ordinal())
     }
 
     pub fn starts_log(self, sizes: &Sizes) -> bool {

@@ -8,36 +8,70 @@ use crate::ledger::{ledger_areas, Ledger};
 use crate::sizes::{Sizes, MOST_BUCKETS};
 use crate::spare::{areas, Area, Kind, Spare};
 
+/// How many pages of a bucket are not blank, and in the highest bit whether one of them
+/// is spoiled: a byte for both, as a survey has so many.
+#[derive(Clone, Copy)]
+pub struct Used(u8);
+
+impl Used {
+    const SPOILED: u8 = 0x80;
+
+    pub fn new(pages: usize, spoiled: bool) -> Used {
+        Used(pages as u8 | if spoiled { Used::SPOILED } else { 0 })
+    }
+
+    fn pages(self) -> u8 {
+        self.0 & !Used::SPOILED
+    }
+}
+
 /// What the spare areas of one bucket say, once they are known to be well formed.
 #[derive(Clone, Copy)]
 pub struct Look {
+    /// Kind, back-end bucket and epoch are those of its first programmed page.
     pub kind: Kind,
-    /// Pages programmed.
-    pub used: u8,
+    pub used: Used,
     pub back_end: u16,
-    /// At least 1, and 0 in a blank bucket.
+    /// At least 1, and 0 without a programmed page.
     pub epoch: u32,
 }
 
 impl Look {
     pub const BLANK: Look = Look {
-        kind: Kind::Blank,
-        used: 0,
+        kind: Kind::Nothing,
+        used: Used(0),
         back_end: 0,
         epoch: 0,
     };
 
-    pub fn is_blank(&self) -> bool {
-        self.kind == Kind::Blank
+    /// With a spoiled page before all of these.
+    fn behind_spoiled(self) -> Look {
+        let used = Used::new(usize::from(self.used.pages()) + 1, true);
+        Look { used, ..self }
     }
 
+    pub fn is_blank(&self) -> bool {
+        self.used.0 == 0
+    }
+
+    /// Whether some page is programmed.
+    pub fn is_occupied(&self) -> bool {
+        self.kind != Kind::Nothing
+    }
+
+    /// Whether some page is spoiled and none programmed.
+    pub fn is_spent(&self) -> bool {
+        !self.is_blank() && !self.is_occupied()
+    }
+
+    /// Whether all pages are programmed: used, and none of them spoiled.
     pub fn is_complete(&self, sizes: &Sizes) -> bool {
-        usize::from(self.used) == sizes.bucket_pages
+        usize::from(self.used.0) == sizes.bucket_pages
     }
 
     /// How many pages are blank: all behind those in use.
     pub fn blank_pages(&self, sizes: &Sizes) -> u8 {
-        sizes.bucket_pages as u8 - self.used
+        sizes.bucket_pages as u8 - self.used.pages()
     }
 }
 
@@ -85,18 +119,22 @@ impl Survey {
             };
             *look = seen;
             self.next_epoch = self.next_epoch.max(u64::from(seen.epoch) + 1);
-            seen.is_blank() || epochs.insert(seen.epoch)
+            !seen.is_occupied() || epochs.insert(seen.epoch)
         })
     }
 
-    /// Looks at both ledger buckets: entries, and blank pages only behind them.
+    /// Looks at both ledger buckets: entries and spoiled pages, and blank ones only
+    /// behind them.
     fn look_over_ledger(&mut self, sizes: &Sizes, spare: &[u8]) -> bool {
         let buckets = ledger_areas(sizes, spare).chunks_exact(sizes.bucket_pages);
         buckets.enumerate().all(|(i, pages)| {
-            let entries = pages.iter().map_while(|p| Spare::of(p).as_entry(sizes));
             let mut used = 0;
-            for (_, epoch) in entries {
-                self.take_epoch(epoch);
+            for page in pages.iter().map(Spare::of) {
+                match page.as_entry(sizes) {
+                    Some((_, epoch)) => self.take_epoch(epoch),
+                    None if page.is_spoiled() => {}
+                    None => break,
+                }
                 used += 1;
             }
             self.ledger.used[i] = used;
@@ -125,25 +163,35 @@ impl Index<u8> for Survey {
 
 /// Looks at one bucket; `None` when its pages break the rules.
 pub fn look_at(sizes: &Sizes, pages: &[Area]) -> Option<Look> {
-    let first = Spare::of(&pages[0]);
+    let Some(first) = pages.first().map(Spare::of) else {
+        return Some(Look::BLANK);
+    };
     if first.is_blank() {
         return all_blank(pages).then_some(Look::BLANK);
     }
+    if first.is_spoiled() {
+        return look_at(sizes, &pages[1..]).map(Look::behind_spoiled);
+    }
     let kind = first.kind_if_good(sizes).filter(|_| first.is_first())?;
     let mut used = pages_of_log(first, pages);
+    let mut spoiled = false;
     while used < pages.len() {
         let spare = Spare::of(&pages[used]);
         if spare.is_blank() {
             break;
         }
-        if kind != Kind::Write || !spare.same_bucket(first) || !spare.starts_log(sizes) {
+        if kind == Kind::Write && spare.same_bucket(first) && spare.starts_log(sizes) {
+            used += pages_of_log(spare, &pages[used..]);
+        } else if spare.is_spoiled() {
+            spoiled = true;
+            used += 1;
+        } else {
             return None;
         }
-        used += pages_of_log(spare, &pages[used..]);
     }
     all_blank(&pages[used..]).then(|| Look {
         kind,
-        used: used as u8,
+        used: Used::new(used, spoiled),
         back_end: first.back_end(),
         epoch: first.epoch(),
     })

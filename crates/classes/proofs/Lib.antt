@@ -1,3 +1,4 @@
 pub mod Orders
 pub mod Columns
 pub mod Turns
+pub mod SameSpare

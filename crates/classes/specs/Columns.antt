@@ -1,7 +1,7 @@
 -- The used cache buckets in one order, and columns of back-end buckets beside it.
 use Prim.Native.Nat.{ℕ}
 use mathlib.Core.Path.{_≡_}
-use mathlib.Core.Bool.{Bool, true, false, not, _&&_}
+use mathlib.Core.Bool.{Bool, not, _&&_}
 use mathlib.Core.List.{List, [], _∷_, map}
 use lib.ListN.{length}
 use lib.Dec.{ltb, eqb}
@@ -9,9 +9,9 @@ use Rattle.lists.specs.Lists.{if_then_else_, keep, times}
 use Rattle.model.specs.declared.Sizes.{Sizes}
 use Rattle.model.specs.Sizes.{Device}
 use Rattle.model.specs.Image.{used, backOf, isWrite, isCopy, complete}
-use Rattle.model.specs.Recover.{buckets, byEpoch, isChosen, isDroppedWrite, isDroppedCopy, isFree}
+use Rattle.model.specs.Recover.{buckets, byEpoch, isChosen, isDroppedWrite, isDroppedCopy, isFree, isSpent}
 use Rattle.classes.specs.declared.Kind.{Kind}
-use Rattle.classes.specs.declared.Kind.the-variants.{Write, Copy, Complete}
+use Rattle.classes.specs.declared.Kind.the-variants.{Used, Free, Spent, Write, Copy, Complete}
 
 -- stands in a column where a bucket is not such; below no B
 abbrev pub nowhere : ℕ
@@ -22,12 +22,10 @@ module _ (z : Sizes) (d : Device) where
   abbrev pub inOrder : List ℕ
   inOrder = byEpoch z d (buckets z d (used z d))
 
-  -- used, or blank
-  abbrev pub isUsed : Bool → ℕ → Bool
-  isUsed true = used z d
-  isUsed false = isFree z d
-
   abbrev pub isKind : Kind → ℕ → Bool
+  isKind Used = used z d
+  isKind Free = isFree z d
+  isKind Spent = isSpent z d
   isKind Write = isWrite z d
   isKind Copy = isCopy z d
   isKind Complete = complete z d

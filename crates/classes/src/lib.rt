@@ -11,16 +11,21 @@ ghost use lib.ListN.{length};
 ghost use Rattle.lists.specs.Lists.{if_then_else_, times};
 ghost use Rattle.model.specs.Sizes.{body};
 ghost use Rattle.model.specs.Image.{isWrite, isCopy, bodyFits};
-ghost use Rattle.model.specs.Recover.{buckets, isChosen, isDroppedWrite, isDroppedCopy, isOldCopy};
+ghost use Rattle.model.specs.Recover.{buckets, isChosen, isDroppedWrite, isDroppedCopy, isOldCopy, isSpent};
 ghost use Rattle.fifo.specs.View.{listOf};
 ghost use Rattle.image.specs.Chip.{Chip, spareOnly};
-ghost use Rattle.classes.specs.Columns.{nowhere, inOrder, isUsed, isKind, named, column, occurring, lastOfEach, isNamed, allBut};
+ghost use Rattle.classes.specs.Columns.{nowhere, inOrder, isKind, named, column, occurring, lastOfEach, isNamed, allBut};
 
 // No back-end bucket: no B is above it.
 pub const NOWHERE: u16 = 65535;
 
 // What a bucket may be, by itself.
 pub enum Kind {
+    Used,
+    // all its pages are blank
+    Free,
+    // a page of it is spoiled, and none programmed
+    Spent,
     Write,
     // a Read or Dirty bucket
     Copy,
@@ -28,28 +33,46 @@ pub enum Kind {
     Complete,
 }
 
-fn is_used(z: Sizes, occupied: bool, c: usize, spare: &[u8]) -> bool
+fn is_spent(z: Sizes, c: usize, spare: &[u8]) -> bool
     requires { ⌜ Chip z (now spare) ⌝ }
     requires { ⌜ bodyFits z (spareOnly (now spare)) ≡ true ⌝ }
     requires { ⌜ c < body z ⌝ }
-    ensures { λ r. ⌜ r ≡ isUsed z (spareOnly (now (spare .entry))) occupied c ⌝ }
+    ensures { λ r. ⌜ r ≡ isSpent z (spareOnly (now (spare .entry))) c ⌝ }
 {
-    let used = image::used(z, c, spare);
-    if occupied { used } else { !used }
+    if image::used(z, c, spare) {
+        return false;
+    }
+    !image::is_free(z, c, spare)
 }
 
-// The used buckets, or the blank ones, rising.
-pub fn buckets(z: Sizes, occupied: bool, spare: &[u8]) -> Fifo
+fn is_a(z: Sizes, kind: Kind, c: usize, spare: &[u8]) -> bool
     requires { ⌜ Chip z (now spare) ⌝ }
     requires { ⌜ bodyFits z (spareOnly (now spare)) ≡ true ⌝ }
-    ensures { λ r. ⌜ listOf r ≡ buckets z (spareOnly (now (spare .entry))) (isUsed z (spareOnly (now (spare .entry))) occupied) ⌝ }
+    requires { ⌜ c < body z ⌝ }
+    ensures { λ r. ⌜ r ≡ isKind z (spareOnly (now (spare .entry))) kind c ⌝ }
+{
+    match kind {
+        Kind::Used => image::used(z, c, spare),
+        Kind::Free => image::is_free(z, c, spare),
+        Kind::Spent => is_spent(z, c, spare),
+        Kind::Write => image::is_write(z, c, spare),
+        Kind::Copy => image::is_copy(z, c, spare),
+        Kind::Complete => image::complete(z, c, spare),
+    }
+}
+
+// The buckets of a kind, rising.
+pub fn buckets(z: Sizes, kind: Kind, spare: &[u8]) -> Fifo
+    requires { ⌜ Chip z (now spare) ⌝ }
+    requires { ⌜ bodyFits z (spareOnly (now spare)) ≡ true ⌝ }
+    ensures { λ r. ⌜ listOf r ≡ buckets z (spareOnly (now (spare .entry))) (isKind z (spareOnly (now (spare .entry))) kind) ⌝ }
 {
     let end = geometry::body(z);
     let mut items = [0u8; 256];
     let mut n = 0;
     let mut c = 0;
     while c < end {
-        if is_used(z, occupied, c, spare) {
+        if is_a(z, kind, c, spare) {
             items[n] = c as u8;
             n += 1;
         }
@@ -64,21 +87,8 @@ pub fn in_order(z: Sizes, spare: &[u8]) -> Fifo
     requires { ⌜ bodyFits z (spareOnly (now spare)) ≡ true ⌝ }
     ensures { λ r. ⌜ listOf r ≡ inOrder z (spareOnly (now (spare .entry))) ⌝ }
 {
-    let used = buckets(z, true, spare);
+    let used = buckets(z, Kind::Used, spare);
     order::by_epoch(z, used, spare)
-}
-
-fn is_a(z: Sizes, kind: Kind, c: usize, spare: &[u8]) -> bool
-    requires { ⌜ Chip z (now spare) ⌝ }
-    requires { ⌜ bodyFits z (spareOnly (now spare)) ≡ true ⌝ }
-    requires { ⌜ c < body z ⌝ }
-    ensures { λ r. ⌜ r ≡ isKind z (spareOnly (now (spare .entry))) kind c ⌝ }
-{
-    match kind {
-        Kind::Write => image::is_write(z, c, spare),
-        Kind::Copy => image::is_copy(z, c, spare),
-        Kind::Complete => image::complete(z, c, spare),
-    }
 }
 
 fn named(z: Sizes, kind: Kind, c: usize, spare: &[u8]) -> u16

@@ -13,15 +13,15 @@ use Rattle.lists.proofs.Counts.{times-self, times-cons}
 use Rattle.model.specs.declared.Sizes.{Sizes}
 use Rattle.model.specs.Sizes.{Device, body}
 use Rattle.model.specs.Stores.{Store, program, erase, unit, apply, bucketBytes, diskBytes}
-use Rattle.model.specs.Image.{pageFits, used, bodyFits, mergeTo, merge}
+use Rattle.model.specs.Image.{bucketFits, used, bodyFits, mergeTo, merge}
 use Rattle.model.specs.Recover.{mergeAll}
-use Rattle.model.proofs.Tags.{blank-ff}
+use Rattle.model.proofs.Tags.{programmed-ff}
 use Rattle.model.proofs.Limits.{on-chip}
 use Rattle.model.proofs.Heads.{Blank, head-blank}
 use Rattle.model.proofs.Frames.{Lengths, Fits, lengths-kept, disk-programmed, tag-erased, disk-erased}
 use Rattle.model.proofs.Formed.{Formed, formed-of, formed-test}
 use Rattle.model.proofs.FormedKept.{blank-fits}
-use Rattle.model.proofs.Show.{Same, same-refl, same-trans, same-program, same-erase, used-same, epochOf-same, pageFits-same, endsLog-same, logBytes-same}
+use Rattle.model.proofs.Show.{Same, same-refl, same-trans, same-program, same-erase, used-same, epochOf-same, fits-same, endsLog-same, logBytes-same}
 use Rattle.queue.specs.declared.Found.{Found}
 use Rattle.meter.specs.Run.{Run, step, runAll}
 use Rattle.copying.specs.Laid.{underBytes, listedBytes}
@@ -91,20 +91,20 @@ module _ (z : Sizes) (p-low : 1 ≤ z .p) where
         go : Dec (x ≡ c) → Same z d e c ⊎ Blank z e c → Same z d e x
         go (no ne) o = u .others x hx ne
         go (yes q) (inl s) = rw q s
-        go (yes q) (inr w) = absurd (true≢false (sym (rw q at h) ∙ rw (head-blank z p-low e c w, blank-ff)))
+        go (yes q) (inr w) = absurd (true≢false (sym (rw q at h) ∙ rw (head-blank z p-low e c w, programmed-ff)))
 
-    page-fits : (x k : ℕ) → x < body z → k < z .p → pageFits z d x k ≡ true → pageFits z e x k ≡ true
-    page-fits x k hx hk h = go (ℕ-discrete x c) (u .own)
+    still-fits : (x : ℕ) → x < body z → bucketFits z d x ≡ true → bucketFits z e x ≡ true
+    still-fits x hx h = go (ℕ-discrete x c) (u .own)
       where
-        go : Dec (x ≡ c) → Same z d e c ⊎ Blank z e c → pageFits z e x k ≡ true
-        go (no ne) o = pageFits-same z p-low d e x (u .others x hx ne) k hk ∙ h
-        go (yes q) (inl s) = pageFits-same z p-low d e x (rw q s) k hk ∙ h
-        go (yes q) (inr w) = blank-fits z p-low e x k (rw (q, w k hk) blank-ff)
+        go : Dec (x ≡ c) → Same z d e c ⊎ Blank z e c → bucketFits z e x ≡ true
+        go (no ne) o = fits-same z p-low d e x (u .others x hx ne) ∙ h
+        go (yes q) (inl s) = fits-same z p-low d e x (rw q s) ∙ h
+        go (yes q) (inr w) = rw q (blank-fits z p-low e c w)
 
     -- the page rules hold as before
     pub formed : bodyFits z d ≡ true → bodyFits z e ≡ true
     formed h = formed-test z e (record {
-      pages-fit = λ x k hx hk. page-fits x k hx hk (f .pages-fit x k hx hk);
+      buckets-fit = λ x hx. still-fits x hx (f .buckets-fit x hx);
       epochs-differ = λ x y hx hy ux uy same. f .epochs-differ x y hx hy (before x hx ux) (before y hy uy)
           (sym (epochOf-same z p-low d e x (still x hx ux)) ∙ same ∙ epochOf-same z p-low d e y (still y hy uy));
     })

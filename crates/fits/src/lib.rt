@@ -103,17 +103,20 @@ fn marks_fit(reads: queue::Queue, writes: queue::Queue) -> bool
     true
 }
 
+// The epoch of a bucket, or 0. Its head is blank if it has no kind, and the bytes of a spoiled one mean nothing.
 fn epoch_there(z: Sizes, c: usize, spare: &[u8]) -> u32
     requires { ⌜ Chip z (now spare) ⌝ }
     requires { ⌜ c < z .c ⌝ }
     requires { ⌜ blank (headTag z (spareOnly (now spare)) c) ≡ eqb (kind (headTag z (spareOnly (now spare)) c)) 255 ⌝ }
     ensures { λ r. ⌜ r ≡ epochOf z (spareOnly (now (spare .entry))) c ⌝ }
 {
-    let page = c * z.p;
-    if spare::kind_at(spare, page) == spare::NO_KIND {
-        0
-    } else {
+    let k = image::head(z, c, spare);
+    let page = c * z.p + k;
+    let kind = spare::kind_at(spare, page);
+    if (kind != spare::NO_KIND) & (kind != spare::SPOILED_KIND) {
         spare::epoch_at(spare, page)
+    } else {
+        0
     }
 }
 
@@ -205,14 +208,14 @@ fn queue_agrees(queue: queue::Queue, written: bool, z: Sizes, spare: &[u8]) -> b
     agree
 }
 
-// A bucket made by the page rules has blank pages alone if its first is blank.
+// A bucket made by the page rules has blank pages alone if its first is blank. That one has no kind then.
 fn all_blank(z: Sizes, c: usize, spare: &[u8]) -> bool
     requires { ⌜ Chip z (now spare) ⌝ }
     requires { ⌜ bodyFits z (spareOnly (now spare)) ≡ true ⌝ }
     requires { ⌜ c < body z ⌝ }
     ensures { λ r. ⌜ r ≡ allBlank z (spareOnly (now (spare .entry))) c ⌝ }
 {
-    !image::used(z, c, spare)
+    spare::kind_at(spare, c * z.p) == spare::NO_KIND
 }
 
 fn free_blank(free: fifo::Fifo, z: Sizes, spare: &[u8]) -> bool

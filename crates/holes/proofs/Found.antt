@@ -8,7 +8,7 @@ use mathlib.Core.List.{map}
 use native.Mathlib.Omega.{arith}
 use native.Mathlib.Numerals.{add-one}
 use lib.Dec.{eqb}
-use borrow.Author.Tests.{eq-eqb, ne-eqb}
+use borrow.Author.Tests.{eqb-true, eq-eqb, ne-eqb}
 use Rattle.lists.specs.Lists.{every, allBelow, anyBelow, row, keep, below, distinct}
 use Rattle.lists.proofs.Tests.{true-or-false, and-left, or-left, or-right, if-true, if-false, every-at}
 use Rattle.lists.proofs.Rows.{all-below, below-all, below-alike, any-below}
@@ -16,51 +16,60 @@ use Rattle.lists.proofs.Turns.{keep-more, keep-same}
 use Rattle.model.specs.declared.Sizes.{Sizes}
 use Rattle.model.specs.Sizes.{Device, body}
 use Rattle.model.specs.Stores.{tagOf}
-use Rattle.model.specs.Spare.{blank, kind, epoch}
-use Rattle.model.specs.Image.{fieldsFit, pageFits, bucketFits, headTag, used, epochOf, bodyFits}
-use Rattle.model.specs.Ledger.{ledgerTag, entryFits, entriesFit, names, named, firstTag, looseFits, foundFits, occupied, firstEpoch, recoverable}
+use Rattle.model.specs.Spare.{blank, spoiled, programmed, kind, epoch}
+use Rattle.model.specs.Image.{fieldsFit, bucketFits, used, epochOf, bodyFits}
+use Rattle.model.specs.Ledger.{ledgerTag, entryFits, entriesFit, names, named, looseFits, foundFits, occupied, firstEpoch, recoverable}
+use Rattle.model.proofs.Tags.{blank-unprogrammed, unprogrammed}
 use Rattle.model.proofs.Rules.{Fields, fields-of}
+use Rattle.model.proofs.Heads.{head-page}
 use Rattle.model.proofs.Formed.{page-fields, epoch-used}
 use Rattle.spare.proofs.Looked.{kind-erased}
 use Rattle.image.specs.Chip.{Headed}
+use Rattle.image.proofs.First.{kind-used, head-at}
 use Rattle.ledger.specs.Halves.{blankThere}
 use Rattle.ledger.proofs.Names.{names-kind}
 use Rattle.holes.specs.Found.{Speaks, foundEpoch}
-use Rattle.holes.proofs.First.{head-speaks}
+use Rattle.holes.proofs.First.{used-first, head-speaks}
 
 -- ---- one bucket
 
 module _ (z : Sizes) (d : Device) (c : ℕ) (fit : foundFits z d c ≡ true) where
-  pub found-fields : (k : ℕ) → k < z .p → blank (tagOf z d c k) ≡ false → Fields z (tagOf z d c k)
-  unfolding foundFits bucketFits looseFits
-  found-fields k h nb = ⊎-elim
-      (λ n. fields-of z (tagOf z d c k) (and-left (fieldsFit z (tagOf z d c k)) _ (or-right _ _ (all-below (z .p) (looseFits z d c) (sym (if-true _ _ n) ∙ fit) k h) nb)))
-      (λ n. page-fields z d c (all-below (z .p) (pageFits z d c) (sym (if-false _ _ n) ∙ fit)) k h nb)
+  pub found-fields : (k : ℕ) → k < z .p → programmed (tagOf z d c k) ≡ true → Fields z (tagOf z d c k)
+  unfolding foundFits looseFits
+  found-fields k h p = ⊎-elim
+      (λ n. fields-of z (tagOf z d c k) (and-left (fieldsFit z (tagOf z d c k)) _ (or-right (not (programmed (tagOf z d c k))) _ (all-below (z .p) (looseFits z d c) (sym (if-true _ _ n) ∙ fit) k h) (rw p))))
+      (λ n. page-fields z d c (sym (if-false _ _ n) ∙ fit) k h p)
       (true-or-false (named z d c))
 
   -- a page is blank if it has no kind
   pub found-kind : (k : ℕ) → k < z .p → blank (tagOf z d c k) ≡ eqb (kind (tagOf z d c k)) 255
-  found-kind k h = go (true-or-false (blank (tagOf z d c k)))
+  unfolding spoiled
+  found-kind k h = ⊎-elim (λ p. has (λ q. omega (arith, found-fields k h p .kind-high))) (λ p. none (unprogrammed (tagOf z d c k) p)) (true-or-false (programmed (tagOf z d c k)))
     where
-      go : (blank (tagOf z d c k) ≡ true) ⊎ (blank (tagOf z d c k) ≡ false) → blank (tagOf z d c k) ≡ eqb (kind (tagOf z d c k)) 255
-      go (inl e) = e ∙ sym (eq-eqb (kind (tagOf z d c k)) 255 (kind-erased (tagOf z d c k) e))
-      go (inr e) = e ∙ sym (ne-eqb (kind (tagOf z d c k)) 255 (λ q. omega (arith, found-fields k h e .kind-high)))
+      has : (kind (tagOf z d c k) ≡ 255 → ⊥) → blank (tagOf z d c k) ≡ eqb (kind (tagOf z d c k)) 255
+      has n = kind-used (tagOf z d c k) n ∙ sym (ne-eqb (kind (tagOf z d c k)) 255 n)
+
+      none : (blank (tagOf z d c k) ≡ true) ⊎ (eqb (kind (tagOf z d c k)) 0 ≡ true) → blank (tagOf z d c k) ≡ eqb (kind (tagOf z d c k)) 255
+      none (inl e) = e ∙ sym (eq-eqb (kind (tagOf z d c k)) 255 (kind-erased (tagOf z d c k) e))
+      none (inr e) = has (λ q. omega (arith, eqb-true (kind (tagOf z d c k)) 0 e))
 
 pub found-headed : (z : Sizes) (d : Device) → 1 ≤ z .p → recoverable z d ≡ true → Headed z d
-unfolding recoverable headTag
-found-headed z d p-low h c inside = found-kind z d c (all-below (body z) (foundFits z d) (every-at _ h 0) c inside) 0 p-low
+unfolding recoverable
+found-headed z d p-low h c inside =
+    let head = head-page z p-low d c in
+    rw (head .is) (found-kind z d c (all-below (body z) (foundFits z d) (every-at _ h 0) c inside) (head .page) (head .inside))
 
 -- the bucket's epoch is that of the page that speaks for it
 module _ (z : Sizes) (d : Device) (c k : ℕ) (speaks : Speaks z d c k) where
-  pub epoch-none : blank (tagOf z d c k) ≡ true → (0 ≡ foundEpoch z d c) × (occupied z d c ≡ false)
-  unfolding foundEpoch occupied
-  epoch-none b = let e : occupied z d c ≡ false = rw (speaks .1, b) in (rw e, e)
+  pub epoch-none : programmed (tagOf z d c k) ≡ false → (0 ≡ foundEpoch z d c) × (occupied z d c ≡ false)
+  unfolding foundEpoch
+  epoch-none p = let e = speaks .tells ∙ p in (rw e, e)
 
-  pub epoch-said : foundFits z d c ≡ true → blank (tagOf z d c k) ≡ false → (epoch (tagOf z d c k) ≡ foundEpoch z d c) × (occupied z d c ≡ not (eqb (epoch (tagOf z d c k)) 0))
-  unfolding foundEpoch occupied firstEpoch
-  epoch-said fit b =
-      let e : occupied z d c ≡ true = rw (speaks .1, b) in
-      (rw (e, speaks .1), e ∙ sym (ap not (ne-eqb (epoch (tagOf z d c k)) 0 (λ q. omega (arith, found-fields z d c fit k (speaks .0) b .epoch-low)))))
+  pub epoch-said : foundFits z d c ≡ true → programmed (tagOf z d c k) ≡ true → (epoch (tagOf z d c k) ≡ foundEpoch z d c) × (occupied z d c ≡ not (eqb (epoch (tagOf z d c k)) 0))
+  unfolding foundEpoch firstEpoch
+  epoch-said fit p =
+      let e = speaks .tells ∙ p in
+      (rw (e, speaks .is p), e ∙ sym (ap not (ne-eqb (epoch (tagOf z d c k)) 0 (λ q. omega (arith, found-fields z d c fit k (speaks .inside) p .epoch-low)))))
 
 pub found-occupied : (z : Sizes) (d : Device) (c : ℕ) → occupied z d c ≡ true → foundEpoch z d c ≡ firstEpoch z d c
 unfolding foundEpoch
@@ -92,24 +101,24 @@ module _ (z : Sizes) (d : Device) (p-low : 1 ≤ z .p) (none : allBelow (2 * z .
 
   blank-entries : entriesFit z d ≡ true
   unfolding entriesFit entryFits blankThere
-  blank-entries = below-all (2 * z .p) (entryFits z d) (λ i h. or-left (blank (ledgerTag z d i)) _ (all-below (2 * z .p) (blankThere z d) none i h))
+  blank-entries = below-all (2 * z .p) (entryFits z d) (λ i h. or-left (not (programmed (ledgerTag z d i))) _ (rw (blank-unprogrammed (ledgerTag z d i) (all-below (2 * z .p) (blankThere z d) none i h))))
 
   found-ruled : allBelow (body z) (foundFits z d) ≡ allBelow (body z) (bucketFits z d)
   unfolding foundFits
   found-ruled = below-alike (body z) (foundFits z d) (bucketFits z d) (λ c h. if-false _ _ (none-named c))
 
   module _ (fit : allBelow (body z) (bucketFits z d) ≡ true) where
-    head-first : (c : ℕ) → c < body z → firstTag z d c ≡ headTag z d c
-    unfolding headTag
-    head-first c h = head-speaks z d c p-low (all-below (body z) (bucketFits z d) fit c h) .1
-
+    -- the head speaks for its bucket
     used-occupied : (c : ℕ) → c < body z → used z d c ≡ occupied z d c
-    unfolding used occupied
-    used-occupied c h = rw (head-first c h)
+    unfolding used
+    used-occupied c h =
+        let head = head-page z p-low d c in
+        let speaks = head-speaks z d c (head .page) (all-below (body z) (bucketFits z d) fit c h) (head-at z d c (head .page) (head .inside) (head .before) (head .last)) in
+        ap programmed (head .is) ∙ sym (speaks .tells)
 
     epochs-alike : (c : ℕ) → c < body z → occupied z d c ≡ true → epochOf z d c ≡ firstEpoch z d c
     unfolding firstEpoch
-    epochs-alike c h o = epoch-used z d c (used-occupied c h ∙ o) ∙ sym (ap epoch (head-first c h))
+    epochs-alike c h o = let u = used-occupied c h ∙ o in epoch-used z d c u ∙ sym (ap epoch (used-first z d c p-low u))
 
     same-epochs : distinct (map (epochOf z d) (keep (used z d) (below (body z)))) ≡ distinct (map (firstEpoch z d) (keep (occupied z d) (below (body z))))
     same-epochs = ap distinct (kept-alike (body z) (used z d) (occupied z d) (epochOf z d) (firstEpoch z d) used-occupied epochs-alike)

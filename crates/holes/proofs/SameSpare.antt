@@ -7,9 +7,9 @@ use Rattle.lists.specs.Lists.{if_then_else_, every, allBelow, keep, below, dist
 use Rattle.model.specs.declared.Sizes.{Sizes}
 use Rattle.model.specs.Sizes.{Device, body}
 use Rattle.model.specs.Stores.{tagOf}
-use Rattle.model.specs.Spare.{blank, epoch}
-use Rattle.model.specs.Image.{fieldsFit, bucketFits}
-use Rattle.model.specs.Ledger.{ledgerTag, entryFits, entriesFit, holdsEpoch, names, named, firstOf, firstTag, shares, looseFits, foundFits, occupied, firstEpoch, recoverable}
+use Rattle.model.specs.Spare.{programmed, epoch}
+use Rattle.model.specs.Image.{shares, fieldsFit, bucketFits}
+use Rattle.model.specs.Ledger.{ledgerTag, entryFits, entriesFit, holdsEpoch, names, named, firstOf, firstTag, looseFits, foundFits, occupied, firstEpoch, recoverable}
 use Rattle.image.specs.Chip.{spareOnly}
 use Rattle.rules.proofs.SameSpare.{same-bucket}
 
@@ -20,11 +20,11 @@ module _ (z : Sizes) (d : Device) where
   same-first : (c n : ℕ) → firstOf z o c n ≡ firstOf z d c n
   unfolding o firstOf tagOf
   same-first c zero = refl
-  same-first c (suc n) = ap (λ (first : List ℕ). if blank first then tagOf z d c n else first) (same-first c n)
+  same-first c (suc n) = ap (λ (first : List ℕ). if programmed first then first else tagOf z d c n) (same-first c n)
 
   same-loose : (c k : ℕ) → looseFits z o c k ≡ looseFits z d c k
   unfolding o looseFits firstTag tagOf
-  same-loose c k = ap (λ (first : List ℕ). blank (tagOf z d c k) || (fieldsFit z (tagOf z d c k) && shares z first (tagOf z d c k))) (same-first c (z .p))
+  same-loose c k = ap (λ (first : List ℕ). not (programmed (tagOf z d c k)) || (fieldsFit z (tagOf z d c k) && shares first (tagOf z d c k))) (same-first c (z .p))
 
   pub same-named : (c : ℕ) → named z (spareOnly (d .spare)) c ≡ named z d c
   unfolding named names holdsEpoch ledgerTag tagOf
@@ -37,7 +37,7 @@ module _ (z : Sizes) (d : Device) where
 
   same-occupied : (c : ℕ) → occupied z o c ≡ occupied z d c
   unfolding occupied firstTag
-  same-occupied c = ap (λ (first : List ℕ). not (blank first)) (same-first c (z .p))
+  same-occupied c = ap programmed (same-first c (z .p))
 
   same-age : (c : ℕ) → firstEpoch z o c ≡ firstEpoch z d c
   unfolding firstEpoch firstTag

@@ -21,7 +21,7 @@ fn first_page(z: Sizes, c: usize, spare: &[u8]) -> usize
     let last = z.p - 1;
     let mut k = 0;
     while k < last {
-        if !spare::blank_at(spare, c * z.p + k) {
+        if image::page_programmed(z, c, k, spare) {
             return k;
         }
         k += 1;
@@ -29,7 +29,7 @@ fn first_page(z: Sizes, c: usize, spare: &[u8]) -> usize
     k
 }
 
-// The rules for a page of a named bucket: it says what the first programmed one does.
+// The rules for a page of a named bucket: a programmed one says what the first of them does.
 fn loose_page(z: Sizes, c: usize, first: usize, k: usize, spare: &[u8]) -> bool
     requires { ⌜ Chip z (now spare) ⌝ }
     requires { ⌜ c < z .c ⌝ }
@@ -37,10 +37,10 @@ fn loose_page(z: Sizes, c: usize, first: usize, k: usize, spare: &[u8]) -> bool
     requires { ⌜ k < z .p ⌝ }
     ensures { λ r. ⌜ r ≡ looseFits z (spareOnly (now (spare .entry))) c k ⌝ }
 {
-    let page = c * z.p + k;
-    if spare::blank_at(spare, page) {
+    if !image::page_programmed(z, c, k, spare) {
         return true;
     }
+    let page = c * z.p + k;
     let f = spare::fields_at(spare, page);
     let g = spare::fields_at(spare, c * z.p + first);
     let zeroed = spare::zeroed(spare, page);
@@ -93,7 +93,7 @@ fn all_found(z: Sizes, marks: &[bool; 256], spare: &[u8]) -> bool
     true
 }
 
-// The page that speaks for a bucket. Of one that is not named it is the first: blank pages come only at the end there.
+// The page that speaks for a bucket. Of one that is not named it is the head: blank pages come only at the end there.
 fn head_page(z: Sizes, c: usize, marked: bool, spare: &[u8]) -> usize
     requires { ⌜ Chip z (now spare) ⌝ }
     requires { ⌜ c < z .c ⌝ }
@@ -101,10 +101,14 @@ fn head_page(z: Sizes, c: usize, marked: bool, spare: &[u8]) -> usize
     requires { ⌜ foundFits z (spareOnly (now spare)) c ≡ true ⌝ }
     ensures { λ r. ⌜ Speaks z (spareOnly (now (spare .entry))) c r ⌝ }
 {
-    if marked { first_page(z, c, spare) } else { 0 }
+    if marked {
+        first_page(z, c, spare)
+    } else {
+        image::head(z, c, spare)
+    }
 }
 
-// The epoch of a bucket, or 0. A page that fits is blank if it has no kind.
+// The epoch of a bucket, or 0. A page that fits is blank if it has no kind, and the bytes of a spoiled one mean nothing.
 fn found_epoch(z: Sizes, c: usize, marked: bool, spare: &[u8]) -> u32
     requires { ⌜ Chip z (now spare) ⌝ }
     requires { ⌜ c < z .c ⌝ }
@@ -115,13 +119,15 @@ fn found_epoch(z: Sizes, c: usize, marked: bool, spare: &[u8]) -> u32
 {
     let k = head_page(z, c, marked, spare);
     let page = c * z.p + k;
-    if spare::kind_at(spare, page) == spare::NO_KIND {
-        return 0;
+    let kind = spare::kind_at(spare, page);
+    if (kind != spare::NO_KIND) & (kind != spare::SPOILED_KIND) {
+        spare::epoch_at(spare, page)
+    } else {
+        0
     }
-    spare::epoch_at(spare, page)
 }
 
-// No two buckets share an epoch. Every page that fits has one above 0.
+// No two buckets share an epoch. Every programmed page that fits has one above 0.
 fn found_differ(z: Sizes, marks: &[bool; 256], spare: &[u8]) -> bool
     requires { ⌜ Chip z (now spare) ⌝ }
     requires { ⌜ Marks z (spareOnly (now spare)) (now marks) ⌝ }

@@ -1,26 +1,28 @@
--- The first page of a bucket, by single spare bytes.
+-- The head of a bucket, and its blank pages, by single spare bytes.
 use Prim.Native.Nat.{ℕ, _+_, _-_, _*_, _≤_, _<_}
 use mathlib.Core.Path.{_≡_, refl, sym, ap, _∙_}
+use mathlib.Core.Logic.{_⊎_, inl, inr}
 use mathlib.Core.Bool.{Bool, true, false, not, _&&_}
 use mathlib.Core.List.{List}
 use native.Mathlib.Nat.{add-zero}
 use native.Mathlib.Omega.{arith}
-use native.Mathlib.Decide.{decLt}
+use native.Mathlib.Decide.{ℕ-discrete, decLt}
 use lib.ListN.{length}
 use lib.Dec.{leb, eqb}
-use borrow.Author.Tests.{eq-eqb, ne-eqb, leb-true, leb-false, le-leb, lt-leb}
+use borrow.Author.Tests.{eqb-true, eq-eqb, ne-eqb, leb-true, leb-false, le-leb, lt-leb}
 use Rattle.lists.specs.Lists.{allBelow, part}
 use Rattle.lists.proofs.Rows.{all-below}
-use Rattle.lists.proofs.Tests.{and-left}
+use Rattle.lists.proofs.Tests.{and-left, and-false}
 use Rattle.model.specs.declared.Sizes.{Sizes}
 use Rattle.model.specs.Sizes.{Device, pageIndex, body}
-use Rattle.model.specs.Spare.{blank, kind, epoch, ordinal, pages}
+use Rattle.model.specs.Spare.{blank, spoiled, programmed, kind}
 use Rattle.model.specs.Stores.{tagOf}
-use Rattle.model.specs.Image.{pageFits, bucketFits, headTag, bodyFits, blanks}
+use Rattle.model.specs.Image.{bucketFits, headTag, bodyFits, blanks}
 use Rattle.model.proofs.Formed.{page-fields, blank-from}
-use Rattle.model.proofs.Tags.{blank-true}
-use Rattle.spare.proofs.Looked.{kind-erased, epoch-erased}
-use Rattle.image.specs.Chip.{Chip, Headed}
+use Rattle.model.proofs.Heads.{HeadPage, head-page}
+use Rattle.model.proofs.Tags.{kind-real, unprogrammed}
+use Rattle.spare.proofs.Looked.{kind-erased}
+use Rattle.image.specs.Chip.{Chip, Headed, HeadAt}
 use Rattle.image.proofs.Place.{page-inside}
 
 pub first-inside : {z : Sizes} {spare : List ℕ} {c : ℕ} → Chip z spare → c < z .c → c * z .p * 16 + 16 ≤ length spare
@@ -30,64 +32,81 @@ pub first-tag : (z : Sizes) (d : Device) (c : ℕ) → part (d .spare) (c * z .p
 unfolding tagOf pageIndex
 first-tag z d c = rw (add-zero (c * z .p))
 
--- a kind or an epoch that a blank page does not have
-by-byte : (tag : List ℕ) → (blank tag ≡ true → ⊥) → blank tag ≡ false
-by-byte tag n = go (blank tag) refl
+-- a blank page has no kind
+pub kind-used : (tag : List ℕ) → (kind tag ≡ 255 → ⊥) → blank tag ≡ false
+kind-used tag n = go (blank tag) refl
   where
     go : (t : Bool) → blank tag ≡ t → blank tag ≡ false
-    go true e = absurd (n e)
+    go true e = absurd (n (kind-erased tag e))
     go false e = e
 
-pub kind-used : (tag : List ℕ) → (kind tag ≡ 255 → ⊥) → blank tag ≡ false
-kind-used tag n = by-byte tag (λ e. n (kind-erased tag e))
+-- whether a page is programmed, where it has no kind and where it has one
+pub no-kind-real : (tag : List ℕ) → kind tag ≡ 255 → not (blank tag) ≡ programmed tag
+unfolding programmed spoiled
+no-kind-real tag e = rw e (go (blank tag))
+  where
+    go : (t : Bool) → not t ≡ (not t && true)
+    go true = refl
+    go false = refl
+
+pub kind-else-real : (tag : List ℕ) → (kind tag ≡ 255 → ⊥) → not (eqb (kind tag) 0) ≡ programmed tag
+unfolding programmed spoiled
+kind-else-real tag n = rw (kind-used tag n)
+
+pub write-real : (tag : List ℕ) → eqb (kind tag) 2 ≡ (programmed tag && eqb (kind tag) 2)
+write-real tag = go (ℕ-discrete (kind tag) 2)
+  where
+    go : Dec (kind tag ≡ 2) → eqb (kind tag) 2 ≡ (programmed tag && eqb (kind tag) 2)
+    go (yes e) = rw (kind-real tag (omega arith) (omega arith))
+    go (no ne) = rw (ne-eqb (kind tag) 2 ne) (sym (and-false (programmed tag)))
+
+-- in a bucket that fits a blank page is one with no kind
+pub kind-blank : (z : Sizes) (d : Device) (c k : ℕ) → bucketFits z d c ≡ true → k < z .p → blank (tagOf z d c k) ≡ eqb (kind (tagOf z d c k)) 255
+unfolding spoiled
+kind-blank z d c k fit h = go (blank (tagOf z d c k)) (programmed (tagOf z d c k)) refl refl
+  where
+    has : (kind (tagOf z d c k) ≡ 255 → ⊥) → blank (tagOf z d c k) ≡ eqb (kind (tagOf z d c k)) 255
+    has n = kind-used (tagOf z d c k) n ∙ sym (ne-eqb (kind (tagOf z d c k)) 255 n)
+
+    spoilt : (blank (tagOf z d c k) ≡ true) ⊎ (eqb (kind (tagOf z d c k)) 0 ≡ true) → blank (tagOf z d c k) ≡ eqb (kind (tagOf z d c k)) 255
+    spoilt (inl e) = e ∙ sym (eq-eqb (kind (tagOf z d c k)) 255 (kind-erased (tagOf z d c k) e))
+    spoilt (inr e) = has (λ q. omega (arith, eqb-true (kind (tagOf z d c k)) 0 e))
+
+    go : (t u : Bool) → blank (tagOf z d c k) ≡ t → programmed (tagOf z d c k) ≡ u → blank (tagOf z d c k) ≡ eqb (kind (tagOf z d c k)) 255
+    go t true e p = has (λ q. omega (arith, page-fields z d c fit k h p .kind-high))
+    go t false e p = spoilt (unprogrammed (tagOf z d c k) p)
+
+-- and so is its head
+pub head-blank : (z : Sizes) (d : Device) (c : ℕ) → 1 ≤ z .p → bucketFits z d c ≡ true → blank (headTag z d c) ≡ eqb (kind (headTag z d c)) 255
+head-blank z d c p-low fit = let h = head-page z p-low d c in rw (h .is) (kind-blank z d c (h .page) fit (h .inside))
 
 pub formed-bucket : (z : Sizes) (d : Device) → bodyFits z d ≡ true → (c : ℕ) → c < body z → bucketFits z d c ≡ true
 unfolding bodyFits
 formed-bucket z d h c inside = all-below (body z) (bucketFits z d) (and-left (allBelow (body z) (bucketFits z d)) _ h) c inside
 
--- in a bucket that fits a blank page is one with no kind
-pub kind-blank : (z : Sizes) (d : Device) (c k : ℕ) → bucketFits z d c ≡ true → k < z .p → blank (tagOf z d c k) ≡ eqb (kind (tagOf z d c k)) 255
-unfolding bucketFits
-kind-blank z d c k fit h = go (blank (tagOf z d c k)) refl
-  where
-    go : (t : Bool) → blank (tagOf z d c k) ≡ t → t ≡ eqb (kind (tagOf z d c k)) 255
-    go true e = sym (eq-eqb (kind (tagOf z d c k)) 255 (kind-erased (tagOf z d c k) e))
-    go false e =
-        let f = page-fields z d c (all-below (z .p) (pageFits z d c) fit) k h e in
-        sym (ne-eqb (kind (tagOf z d c k)) 255 (λ q. omega (arith, f .kind-high)))
-
 pub formed-headed : (z : Sizes) (d : Device) → 1 ≤ z .p → bodyFits z d ≡ true → Headed z d
-unfolding headTag
-formed-headed z d p-low h c inside = kind-blank z d c 0 (formed-bucket z d h c inside) p-low
+formed-headed z d p-low h c inside = head-blank z d c p-low (formed-bucket z d h c inside)
 
-pub epoch-used : (tag : List ℕ) → (epoch tag ≡ 4294967295 → ⊥) → blank tag ≡ false
-epoch-used tag n = by-byte tag (λ e. n (epoch-erased tag e))
-
-pub write-kind : (tag : List ℕ) → eqb (kind tag) 2 ≡ (not (blank tag) && eqb (kind tag) 2)
-write-kind tag = go (blank tag) refl
+-- one page speaks for the bucket
+pub head-at : (z : Sizes) (d : Device) (c k : ℕ) → k < z .p → ((i : ℕ) → i < k → spoiled (tagOf z d c i) ≡ true) → (spoiled (tagOf z d c k) ≡ true → k ≡ z .p - 1) → HeadAt z d c k
+head-at z d c k inside before last = record { inside = inside; is = h .is ∙ ap (tagOf z d c) one; before = before; last = last }
   where
-    go : (t : Bool) → blank tag ≡ t → eqb (kind tag) 2 ≡ (not t && eqb (kind tag) 2)
-    go true e = ap (λ (k : ℕ). eqb k 2) (kind-erased tag e)
-    go false e = refl
+    h : HeadPage z d c
+    h = head-page z (omega arith) d c
 
--- the erased bytes of a blank page end no log
-pub ends-used : (tag : List ℕ) → eqb (ordinal tag + 1) (pages tag) ≡ (not (blank tag) && eqb (ordinal tag + 1) (pages tag))
-unfolding ordinal pages
-ends-used tag = go (blank tag) refl
-  where
-    go : (t : Bool) → blank tag ≡ t → eqb (ordinal tag + 1) (pages tag) ≡ (not t && eqb (ordinal tag + 1) (pages tag))
-    go true e = rw (blank-true tag e)
-    go false e = refl
+    go : Dec (h .page < k) → Dec (k < h .page) → h .page ≡ k
+    go (yes u) v = omega (arith, h .last (before (h .page) u))
+    go (no u) (yes v) = omega (arith, last (h .before k v), h .inside)
+    go (no u) (no v) = omega arith
 
--- where the programmed pages of a bucket that fits end
-pub programmed-end : (z : Sizes) (d : Device) (c k : ℕ) → bucketFits z d c ≡ true → k ≤ z .p → ((j : ℕ) → j < k → blank (tagOf z d c j) ≡ false)
+    one : h .page ≡ k
+    one = go (decLt (h .page) k) (decLt k (h .page))
+
+-- where the blank pages of a bucket that fits begin
+pub used-end : (z : Sizes) (d : Device) (c k : ℕ) → bucketFits z d c ≡ true → k ≤ z .p → ((j : ℕ) → j < k → blank (tagOf z d c j) ≡ false)
     → (k < z .p → blank (tagOf z d c k) ≡ true) → k ≡ z .p - blanks z d c
-unfolding bucketFits
-programmed-end z d c k h inside before behind = go (decLt k (z .p)) (decLt 0 k)
+used-end z d c k fit inside before behind = go (decLt k (z .p)) (decLt 0 k)
   where
-    fit : (j : ℕ) → j < z .p → pageFits z d c j ≡ true
-    fit = all-below (z .p) (pageFits z d c) h
-
     high : Dec (k < z .p) → z .p - blanks z d c ≤ k
     high (yes u) = leb-true (z .p - blanks z d c) k (sym (blank-from z d c fit k u) ∙ behind u)
     high (no u) = omega arith
@@ -99,10 +118,9 @@ programmed-end z d c k h inside before behind = go (decLt k (z .p)) (decLt 0 k)
     go : Dec (k < z .p) → Dec (0 < k) → k ≡ z .p - blanks z d c
     go u v = omega (arith, high u, low v)
 
--- a page that has a kind, and all before it, are programmed
+-- a page that has a kind, and all before it, are not blank
 pub kind-to : (z : Sizes) (d : Device) (c k : ℕ) → bucketFits z d c ≡ true → k < z .p → not (eqb (kind (tagOf z d c k)) 255) ≡ leb (k + 1) (z .p - blanks z d c)
-unfolding bucketFits
-kind-to z d c k fit h = rw (← kind-blank z d c k fit h, blank-from z d c (all-below (z .p) (pageFits z d c) fit) k h) (go (decLt k (z .p - blanks z d c)))
+kind-to z d c k fit h = rw (← kind-blank z d c k fit h, blank-from z d c fit k h) (go (decLt k (z .p - blanks z d c)))
   where
     go : Dec (k < z .p - blanks z d c) → not (leb (z .p - blanks z d c) k) ≡ leb (k + 1) (z .p - blanks z d c)
     go (yes u) = rw (lt-leb (z .p - blanks z d c) k u, le-leb (k + 1) (z .p - blanks z d c) (omega arith))

@@ -1,3 +1,4 @@
 pub mod Place
 pub mod SameSpare
 pub mod First
+pub mod Copies

@@ -8,9 +8,10 @@ ghost use mathlib.Core.Bool.{true};
 ghost use Prim.Native.Nat.{_-_, _≤_, _<_};
 ghost use lib.Dec.{leb, eqb};
 ghost use Rattle.model.specs.Stores.{tagOf};
-ghost use Rattle.model.specs.Image.{bucketFits, used, epochOf, backOf, isWrite, isCopy, isDirty, complete, pageBlank, endsLog, blanks};
+ghost use Rattle.model.specs.Spare.{kind};
+ghost use Rattle.model.specs.Image.{headTag, bucketFits, used, epochOf, backOf, isWrite, isCopy, isDirty, complete, pageBlank, pageProgrammed, endsLog, blanks};
 ghost use Rattle.spare.specs.Fields.{seen};
-ghost use Rattle.image.specs.Chip.{Chip, spareOnly};
+ghost use Rattle.image.specs.Chip.{Chip, HeadAt, spareOnly};
 
 // What page k of the bucket c is.
 pub fn page_seen(z: Sizes, c: usize, k: usize, spare: &[u8]) -> Seen
@@ -22,6 +23,59 @@ pub fn page_seen(z: Sizes, c: usize, k: usize, spare: &[u8]) -> Seen
     spare::seen_at(spare, c * z.p + k)
 }
 
+// The page that speaks for the bucket, by one page after the other.
+fn head_behind(z: Sizes, c: usize, spare: &[u8]) -> usize
+    requires { ⌜ Chip z (now spare) ⌝ }
+    requires { ⌜ c < z .c ⌝ }
+    ensures { λ r. ⌜ HeadAt z (spareOnly (now (spare .entry))) c r ⌝ }
+{
+    let last = z.p - 1;
+    let mut k = 0;
+    while k < last {
+        if spare::kind_at(spare, c * z.p + k) != spare::SPOILED_KIND {
+            return k;
+        }
+        k += 1;
+    }
+    k
+}
+
+// The page that speaks for the bucket: the first that is not spoiled, or the last. Most often it is the first of all, and no loop is gone into.
+pub fn head(z: Sizes, c: usize, spare: &[u8]) -> usize
+    requires { ⌜ Chip z (now spare) ⌝ }
+    requires { ⌜ c < z .c ⌝ }
+    ensures { λ r. ⌜ HeadAt z (spareOnly (now (spare .entry))) c r ⌝ }
+{
+    if spare::kind_at(spare, c * z.p) != spare::SPOILED_KIND {
+        return 0;
+    }
+    head_behind(z, c, spare)
+}
+
+fn head_kind(z: Sizes, c: usize, spare: &[u8]) -> u8
+    requires { ⌜ Chip z (now spare) ⌝ }
+    requires { ⌜ c < z .c ⌝ }
+    ensures { λ r. ⌜ r ≡ kind (headTag z (spareOnly (now (spare .entry))) c) ⌝ }
+{
+    let page = head(z, c, spare);
+    spare::kind_at(spare, c * z.p + page)
+}
+
+// Whether page k is programmed. The kind tells, but for bytes that begin with FF: those of a blank page are all FF.
+pub fn page_programmed(z: Sizes, c: usize, k: usize, spare: &[u8]) -> bool
+    requires { ⌜ Chip z (now spare) ⌝ }
+    requires { ⌜ c < z .c ⌝ }
+    requires { ⌜ k < z .p ⌝ }
+    ensures { λ r. ⌜ r ≡ pageProgrammed z (spareOnly (now (spare .entry))) c k ⌝ }
+{
+    let page = c * z.p + k;
+    let kind = spare::kind_at(spare, page);
+    if kind == spare::NO_KIND {
+        return !spare::blank_at(spare, page);
+    }
+    kind != spare::SPOILED_KIND
+}
+
 // In a bucket that fits a page is blank if it has no kind.
 pub fn used(z: Sizes, c: usize, spare: &[u8]) -> bool
     requires { ⌜ Chip z (now spare) ⌝ }
@@ -29,7 +83,8 @@ pub fn used(z: Sizes, c: usize, spare: &[u8]) -> bool
     requires { ⌜ bucketFits z (spareOnly (now spare)) c ≡ true ⌝ }
     ensures { λ r. ⌜ r ≡ used z (spareOnly (now (spare .entry))) c ⌝ }
 {
-    spare::kind_at(spare, c * z.p) != spare::NO_KIND
+    let kind = head_kind(z, c, spare);
+    (kind != spare::NO_KIND) & (kind != spare::SPOILED_KIND)
 }
 
 pub fn epoch_of(z: Sizes, c: usize, spare: &[u8]) -> u32
@@ -37,11 +92,12 @@ pub fn epoch_of(z: Sizes, c: usize, spare: &[u8]) -> u32
     requires { ⌜ c < z .c ⌝ }
     ensures { λ r. ⌜ r ≡ epochOf z (spareOnly (now (spare .entry))) c ⌝ }
 {
-    let epoch = spare::epoch_at(spare, c * z.p);
-    if epoch != spare::NO_EPOCH {
-        return epoch;
+    let page = head(z, c, spare);
+    if page_programmed(z, c, page, spare) {
+        spare::epoch_at(spare, c * z.p + page)
+    } else {
+        0
     }
-    if page_blank(z, c, 0, spare) { 0 } else { epoch }
 }
 
 // The epoch of a bucket that is used.
@@ -51,7 +107,8 @@ pub fn used_epoch(z: Sizes, c: usize, spare: &[u8]) -> u32
     requires { ⌜ used z (spareOnly (now spare)) c ≡ true ⌝ }
     ensures { λ r. ⌜ r ≡ epochOf z (spareOnly (now (spare .entry))) c ⌝ }
 {
-    spare::epoch_at(spare, c * z.p)
+    let page = head(z, c, spare);
+    spare::epoch_at(spare, c * z.p + page)
 }
 
 pub fn back_of(z: Sizes, c: usize, spare: &[u8]) -> u16
@@ -59,7 +116,8 @@ pub fn back_of(z: Sizes, c: usize, spare: &[u8]) -> u16
     requires { ⌜ c < z .c ⌝ }
     ensures { λ r. ⌜ r ≡ backOf z (spareOnly (now (spare .entry))) c ⌝ }
 {
-    spare::back_at(spare, c * z.p)
+    let page = head(z, c, spare);
+    spare::back_at(spare, c * z.p + page)
 }
 
 pub fn is_write(z: Sizes, c: usize, spare: &[u8]) -> bool
@@ -67,7 +125,7 @@ pub fn is_write(z: Sizes, c: usize, spare: &[u8]) -> bool
     requires { ⌜ c < z .c ⌝ }
     ensures { λ r. ⌜ r ≡ isWrite z (spareOnly (now (spare .entry))) c ⌝ }
 {
-    spare::kind_at(spare, c * z.p) == model::WRITE_KIND
+    head_kind(z, c, spare) == model::WRITE_KIND
 }
 
 pub fn is_copy(z: Sizes, c: usize, spare: &[u8]) -> bool
@@ -76,8 +134,9 @@ pub fn is_copy(z: Sizes, c: usize, spare: &[u8]) -> bool
     requires { ⌜ bucketFits z (spareOnly (now spare)) c ≡ true ⌝ }
     ensures { λ r. ⌜ r ≡ isCopy z (spareOnly (now (spare .entry))) c ⌝ }
 {
-    let kind = spare::kind_at(spare, c * z.p);
-    (kind != spare::NO_KIND) & (kind != model::WRITE_KIND)
+    let kind = head_kind(z, c, spare);
+    let real = (kind != spare::NO_KIND) & (kind != spare::SPOILED_KIND);
+    real & (kind != model::WRITE_KIND)
 }
 
 pub fn is_dirty(z: Sizes, c: usize, spare: &[u8]) -> bool
@@ -85,7 +144,7 @@ pub fn is_dirty(z: Sizes, c: usize, spare: &[u8]) -> bool
     requires { ⌜ c < z .c ⌝ }
     ensures { λ r. ⌜ r ≡ isDirty z (spareOnly (now (spare .entry))) c ⌝ }
 {
-    spare::kind_at(spare, c * z.p) == model::DIRTY_KIND
+    head_kind(z, c, spare) == model::DIRTY_KIND
 }
 
 pub fn page_blank(z: Sizes, c: usize, k: usize, spare: &[u8]) -> bool
@@ -97,8 +156,19 @@ pub fn page_blank(z: Sizes, c: usize, k: usize, spare: &[u8]) -> bool
     let page = page_seen(z, c, k, spare);
     match page {
         Seen::Blank => true,
+        Seen::Spoiled => false,
         Seen::Programmed(_) => false,
     }
+}
+
+// A bucket that fits has blank pages alone if its first is blank, and that one is if it has no kind.
+pub fn is_free(z: Sizes, c: usize, spare: &[u8]) -> bool
+    requires { ⌜ Chip z (now spare) ⌝ }
+    requires { ⌜ c < z .c ⌝ }
+    requires { ⌜ bucketFits z (spareOnly (now spare)) c ≡ true ⌝ }
+    ensures { λ r. ⌜ r ≡ pageBlank z (spareOnly (now (spare .entry))) c 0 ⌝ }
+{
+    spare::kind_at(spare, c * z.p) == spare::NO_KIND
 }
 
 // Whether page k is the last of a log that has all its pages.
@@ -111,7 +181,7 @@ pub fn ends_log(z: Sizes, c: usize, k: usize, spare: &[u8]) -> bool
     spare::ends_at(spare, c * z.p + k)
 }
 
-// A Read or Dirty bucket with all its pages programmed.
+// A Read or Dirty bucket with all its pages programmed. It is one log, so they are so where its last page ends that log.
 pub fn complete(z: Sizes, c: usize, spare: &[u8]) -> bool
     requires { ⌜ Chip z (now spare) ⌝ }
     requires { ⌜ c < z .c ⌝ }
@@ -119,11 +189,11 @@ pub fn complete(z: Sizes, c: usize, spare: &[u8]) -> bool
     ensures { λ r. ⌜ r ≡ complete z (spareOnly (now (spare .entry))) c ⌝ }
 {
     let copy = is_copy(z, c, spare);
-    copy & (spare::kind_at(spare, c * z.p + (z.p - 1)) != 255)
+    copy & ends_log(z, c, z.p - 1, spare)
 }
 
-// How many pages of a bucket that fits are programmed: those before the first that has no kind.
-pub fn programmed(z: Sizes, c: usize, spare: &[u8]) -> usize
+// How many pages of a bucket that fits are not blank: those before the first that has no kind.
+pub fn pages_used(z: Sizes, c: usize, spare: &[u8]) -> usize
     requires { ⌜ Chip z (now spare) ⌝ }
     requires { ⌜ c < z .c ⌝ }
     requires { ⌜ bucketFits z (spareOnly (now spare)) c ≡ true ⌝ }
@@ -131,7 +201,7 @@ pub fn programmed(z: Sizes, c: usize, spare: &[u8]) -> usize
 {
     let mut k = 0;
     while k < z.p {
-        if spare::kind_at(spare, c * z.p + k) == 255 {
+        if spare::kind_at(spare, c * z.p + k) == spare::NO_KIND {
             return k;
         }
         k += 1;
@@ -139,8 +209,8 @@ pub fn programmed(z: Sizes, c: usize, spare: &[u8]) -> usize
     k
 }
 
-// Whether the first k pages of a bucket that fits are programmed: the last of them has a kind.
-fn programmed_to(z: Sizes, c: usize, k: usize, spare: &[u8]) -> bool
+// Whether the first k pages of a bucket that fits are not blank: the last of them has a kind.
+fn used_to(z: Sizes, c: usize, k: usize, spare: &[u8]) -> bool
     requires { ⌜ Chip z (now spare) ⌝ }
     requires { ⌜ (c < z .c) × (k ≤ z .p) ⌝ }
     requires { ⌜ bucketFits z (spareOnly (now spare)) c ≡ true ⌝ }
@@ -163,11 +233,11 @@ pub fn has_blanks(z: Sizes, c: usize, n: usize, spare: &[u8]) -> bool
         return false;
     }
     let first = z.p - n;
-    let before = programmed_to(z, c, first, spare);
+    let before = used_to(z, c, first, spare);
     if n == 0 {
         return before;
     }
-    before & !programmed_to(z, c, first + 1, spare)
+    before & !used_to(z, c, first + 1, spare)
 }
 
 // How many of the bucket's pages are blank.

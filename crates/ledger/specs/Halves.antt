@@ -6,26 +6,27 @@ use Rattle.lists.specs.Lists.{allBelow}
 use Rattle.model.specs.declared.Sizes.{Sizes}
 use Rattle.model.specs.Sizes.{Device}
 use Rattle.model.specs.Stores.{tagOf}
-use Rattle.model.specs.Spare.{blank}
-use Rattle.model.specs.Ledger.{ledgerTag, isEntry, packed}
+use Rattle.model.specs.Spare.{blank, spoiled}
+use Rattle.model.specs.Image.{packed}
+use Rattle.model.specs.Ledger.{ledgerTag, isEntry}
 
 module _ (z : Sizes) (d : Device) where
   -- page i of the ledger is blank
   unfoldable pub blankThere : ℕ → Bool
   blankThere i = blank (ledgerTag z d i)
 
-  -- page k of the bucket l is an entry
-  unfoldable pub enters : (l k : ℕ) → Bool
-  enters l k = isEntry z (tagOf z d l k)
+  -- page k of the bucket l is an entry, or spoiled
+  unfoldable pub taken : (l k : ℕ) → Bool
+  taken l k = isEntry z (tagOf z d l k) || spoiled (tagOf z d l k)
 
-  -- it is blank or an entry
-  unfoldable pub blankOrEnters : (l k : ℕ) → Bool
-  blankOrEnters l k = blank (tagOf z d l k) || enters l k
+  -- it is blank, or so taken
+  unfoldable pub blankOrTaken : (l k : ℕ) → Bool
+  blankOrTaken l k = blank (tagOf z d l k) || taken l k
 
-  -- the first n pages of the bucket are entries, and page n, if there is one, is not
+  -- the first n pages of the bucket are taken, and page n, if there is one, is not
   abbrev pub Entered : (l n : ℕ) → Type 0
-  Entered l n = (n ≤ z .p) × (allBelow n (enters l) ≡ true) × (n < z .p → enters l n ≡ false)
+  Entered l n = (n ≤ z .p) × (allBelow n (taken l) ≡ true) × (n < z .p → taken l n ≡ false)
 
-  -- entries alone, then blank pages alone
+  -- taken pages alone, then blank pages alone
   unfoldable pub halfFits : ℕ → Bool
-  halfFits l = allBelow (z .p) (blankOrEnters l) && packed z d l
+  halfFits l = allBelow (z .p) (blankOrTaken l) && packed z d l

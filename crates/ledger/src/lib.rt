@@ -1,15 +1,17 @@
-// The erase ledger: whether its pages are entries, and the buckets that these name.
+// The erase ledger: whether its pages are well formed, and the buckets that its entries name.
 // Its two buckets are the chip's last. Their pages lie in a row, and are counted from the first of the lower one on.
 use model::Sizes;
 ghost use mathlib.Core.Path.{_≡_};
-ghost use mathlib.Core.Bool.{true, false};
+ghost use mathlib.Core.Bool.{true, false, _||_};
 ghost use mathlib.Core.List.{[], _∷_};
 ghost use Prim.Native.Nat.{ℕ, _+_, _*_, _≤_, _<_};
 ghost use lib.ListN.{length};
 ghost use lib.Dec.{eqb};
 ghost use Rattle.lists.specs.Lists.{every, allBelow, maxBelow, part};
 ghost use Rattle.model.specs.Sizes.{body};
-ghost use Rattle.model.specs.Ledger.{isEntry, entryFits, entriesFit, packed, holdsEpoch, names, named, oneInUse};
+ghost use Rattle.model.specs.Spare.{spoiled};
+ghost use Rattle.model.specs.Image.{packed};
+ghost use Rattle.model.specs.Ledger.{isEntry, entryFits, entriesFit, holdsEpoch, names, named, oneInUse};
 ghost use Rattle.model.specs.State.{entryEpoch};
 ghost use Rattle.image.specs.Chip.{Chip, spareOnly};
 ghost use Rattle.ledger.specs.Halves.{blankThere, Entered, halfFits};
@@ -25,7 +27,18 @@ fn is_entry(z: Sizes, page: usize, spare: &[u8]) -> bool
     entry & (bucket < geometry::body(z))
 }
 
-// How many pages of a ledger bucket are entries, from the first on.
+// Whether a page is such an entry, or spoiled, as one that was cut.
+fn is_taken(z: Sizes, page: usize, spare: &[u8]) -> bool
+    requires { ⌜ page * 16 + 16 ≤ length (now spare) ⌝ }
+    ensures { λ r. ⌜ r ≡ (isEntry z (part (now (spare .entry)) (page * 16) 16) || spoiled (part (now (spare .entry)) (page * 16) 16)) ⌝ }
+{
+    if is_entry(z, page, spare) {
+        return true;
+    }
+    spare::kind_at(spare, page) == spare::SPOILED_KIND
+}
+
+// How many pages of a ledger bucket are entries or spoiled, from the first on.
 fn entered(z: Sizes, l: usize, spare: &[u8]) -> usize
     requires { ⌜ Chip z (now spare) ⌝ }
     requires { ⌜ l < z .c ⌝ }
@@ -34,7 +47,7 @@ fn entered(z: Sizes, l: usize, spare: &[u8]) -> usize
     let start = l * z.p;
     let mut k = 0;
     while k < z.p {
-        if !is_entry(z, start + k, spare) {
+        if !is_taken(z, start + k, spare) {
             return k;
         }
         k += 1;
@@ -42,7 +55,7 @@ fn entered(z: Sizes, l: usize, spare: &[u8]) -> usize
     k
 }
 
-// The pages behind the entries of a ledger bucket are tested at once: all must be blank.
+// The pages behind those of a ledger bucket are tested at once: all must be blank.
 fn half_fits(z: Sizes, l: usize, spare: &[u8]) -> bool
     requires { ⌜ Chip z (now spare) ⌝ }
     requires { ⌜ l < z .c ⌝ }
@@ -71,10 +84,10 @@ fn entry_fits(z: Sizes, i: usize, spare: &[u8]) -> bool
     if spare::blank_at(spare, page) {
         return true;
     }
-    is_entry(z, page, spare)
+    is_taken(z, page, spare)
 }
 
-// What number 4 of recovery asks of the ledger: blank pages may stand between its entries.
+// What number 4 of recovery asks of the ledger: blank pages may stand between the others.
 pub fn entries_fit(z: Sizes, spare: &[u8]) -> bool
     requires { ⌜ Chip z (now spare) ⌝ }
     ensures { λ r. ⌜ r ≡ entriesFit z (spareOnly (now (spare .entry))) ⌝ }
@@ -90,7 +103,7 @@ pub fn entries_fit(z: Sizes, spare: &[u8]) -> bool
     true
 }
 
-// Whether no page of the ledger is programmed.
+// Whether all pages of the ledger are blank.
 pub fn is_blank(z: Sizes, spare: &[u8]) -> bool
     requires { ⌜ Chip z (now spare) ⌝ }
     ensures { λ r. ⌜ r ≡ allBelow (2 * z .p) (blankThere z (spareOnly (now (spare .entry)))) ⌝ }
@@ -107,7 +120,7 @@ pub fn one_in_use(z: Sizes, spare: &[u8]) -> bool
     first | image::page_blank(z, lower + 1, 0, spare)
 }
 
-// The epoch of an entry, or 0. A page that fits is blank if it has no kind.
+// The epoch of an entry, or 0. A page that fits is an entry if it has its kind.
 fn entry_epoch(z: Sizes, i: usize, spare: &[u8]) -> u32
     requires { ⌜ Chip z (now spare) ⌝ }
     requires { ⌜ i < 2 * z .p ⌝ }
@@ -115,7 +128,7 @@ fn entry_epoch(z: Sizes, i: usize, spare: &[u8]) -> u32
     ensures { λ r. ⌜ r ≡ entryEpoch z (spareOnly (now (spare .entry))) i ⌝ }
 {
     let page = geometry::body(z) * z.p + i;
-    if spare::kind_at(spare, page) == spare::NO_KIND {
+    if spare::kind_at(spare, page) != model::LEDGER_KIND {
         return 0;
     }
     spare::epoch_at(spare, page)
@@ -140,7 +153,7 @@ pub fn top_entry(z: Sizes, spare: &[u8]) -> u64
     top
 }
 
-// Whether a page holds no other epoch; a blank page holds none.
+// Whether a page holds no other epoch; a blank or spoiled page holds none.
 fn page_holds(z: Sizes, x: usize, k: usize, epoch: u32, spare: &[u8]) -> bool
     requires { ⌜ Chip z (now spare) ⌝ }
     requires { ⌜ x < z .c ⌝ }
@@ -151,7 +164,8 @@ fn page_holds(z: Sizes, x: usize, k: usize, epoch: u32, spare: &[u8]) -> bool
     if spare::epoch_at(spare, page) == epoch {
         return true;
     }
-    spare::blank_at(spare, page)
+    let spoiled = spare::kind_at(spare, page) == spare::SPOILED_KIND;
+    spoiled | spare::blank_at(spare, page)
 }
 
 // The same of all pages of a bucket.

@@ -73,10 +73,12 @@ fn lay_page(
         return;
     }
     let page = image::page_seen(z, c, k, spare);
-    let Seen::Programmed(f) = page else {
-        return;
-    };
-    lay_log(z, c, k, f, from, flash, window);
+    match page {
+        Seen::Blank => {}
+        // It "belongs to no log".
+        Seen::Spoiled => {}
+        Seen::Programmed(f) => lay_log(z, c, k, f, from, flash, window),
+    }
 }
 
 // The window shows a base from an index on, and then the base with the bucket's complete logs laid over it.
@@ -86,7 +88,7 @@ pub fn merge_range(z: Sizes, c: usize, from: usize, flash: &[u8], spare: &[u8], 
     requires { ⌜ from + length (now window) ≤ bucketSize z ⌝ }
     ensures { λ _. ⌜ ((base : List ℕ) → length base ≡ bucketSize z → Turns from base (merge z (chip (now (flash .entry)) (now (spare .entry))) c base) (now (window .entry)) (now (window .exit))) ⌝ }
 {
-    let end = image::programmed(z, c, spare);
+    let end = image::pages_used(z, c, spare);
     let mut k = 0;
     while k < end {
         lay_page(z, c, k, from, flash, spare, window);

@@ -10,9 +10,10 @@ use Rattle.model.specs.declared.Sizes.{Sizes}
 use Rattle.model.specs.Sizes.{Device, body}
 use Rattle.model.specs.Stores.{tagOf}
 use Rattle.model.specs.Spare.{blank}
-use Rattle.model.specs.Ledger.{ledgerTag, entryFits, isPacked, packed, oneInUse}
+use Rattle.model.specs.Image.{isPacked, packed}
+use Rattle.model.specs.Ledger.{ledgerTag, entryFits, oneInUse}
 use Rattle.model.specs.State.{entryEpoch}
-use Rattle.model.proofs.Tags.{blank-ff}
+use Rattle.model.proofs.Tags.{blank-ff, programmed-ff}
 use Rattle.model.proofs.Heads.{Blank}
 use Rattle.model.proofs.LedgerKept.{Apart, Ledger}
 use Rattle.model.proofs.LedgerErase.{entry-real, Slot, slot-of, slot-tag}
@@ -35,15 +36,15 @@ module _ (z : Sizes) (p-pos : 1 ≤ z .p) (d : Device) (lower : Blank z d (body 
 
   none-apart : Apart z d
   unfolding Apart
-  none-apart i hi kd = absurd (entry-real (ledgerTag z d i) kd (page-blank i hi))
+  none-apart i k hi hk kd = absurd (entry-real (ledgerTag z d i) kd (page-blank i hi))
 
   pub blank-ledger : (next : ℕ) → 1 ≤ next → Ledger z d next
   unfolding entryFits entryEpoch oneInUse
   blank-ledger next low = record {
-    entries = λ i hi. or-left (blank (ledgerTag z d i)) _ (ap blank (page-blank i hi) ∙ blank-ff);
+    entries = λ i hi. rw (page-blank i hi, programmed-ff);
     lower-packed = packed-blank (body z) lower;
     upper-packed = packed-blank (body z + 1) upper;
     one = or-left (blank (tagOf z d (body z) 0)) _ (ap blank (lower 0 p-pos) ∙ blank-ff);
-    below-next = λ i hi. rw (page-blank i hi, blank-ff) low;
+    below-next = λ i hi. rw (page-blank i hi, programmed-ff) low;
     apart = none-apart;
   }

@@ -1,21 +1,22 @@
--- What a cache bucket shows by its kind: blank buckets, Write buckets, complete copies.
+-- What a cache bucket shows by its kind: buckets without a page, Write buckets, complete copies.
 use Prim.Native.Nat.{ℕ, _≤_, _<_}
 use mathlib.Core.Path.{_≡_, refl, sym, _∙_}
-use mathlib.Core.Logic.{_≢_}
+use mathlib.Core.Logic.{_⊎_, inl, inr, _≢_}
 use mathlib.Core.Bool.{Bool, true, false, _&&_, true≢false}
 use mathlib.Core.Option.{Option, none, some}
 use lib.Dec.{ltb, eqb}
 use borrow.Author.Tests.{ne-eqb, eq-eqb, lt-ltb, le-ltb, ltb-true, eqb-true}
 use Rattle.lists.specs.Lists.{if_then_else_}
-use Rattle.lists.proofs.Tests.{and-left, and-right, and-false}
-use Rattle.lists.proofs.Rows.{count-le}
+use Rattle.lists.proofs.Tests.{true-or-false, and-left, and-right, and-false}
+use Rattle.lists.proofs.Rows.{all-below, count-le}
 use Rattle.model.specs.declared.Sizes.{Sizes}
 use Rattle.model.specs.Sizes.{Device, body}
-use Rattle.model.specs.Spare.{writeKind, kind}
-use Rattle.model.specs.Image.{used, epochOf, backOf, isWrite, isCopy, complete, pageBlank, blanks, headTag}
+use Rattle.model.specs.Stores.{tagOf}
+use Rattle.model.specs.Spare.{programmed, writeKind, kind}
+use Rattle.model.specs.Image.{used, epochOf, backOf, isWrite, isCopy, pageProgrammed, complete, pageBlank, blanks, headTag}
 use Rattle.model.proofs.Views.{none≢some}
 use Rattle.model.proofs.Safe.{found, givesOf, holdsOf}
-use Rattle.model.proofs.Tags.{blank-ff}
+use Rattle.model.proofs.Tags.{programmed-ff}
 use Rattle.model.proofs.Heads.{Blank, head-blank}
 
 module _ (z : Sizes) (d : Device) (c : ℕ) where
@@ -33,6 +34,15 @@ module _ (z : Sizes) (d : Device) (c : ℕ) where
   unfolding holdsOf
   holds-none e b = rw e (and-false (ltb c (body z)))
 
+  -- one with a page that is not programmed is no complete copy
+  pub incomplete : (k : ℕ) → k < z .p → programmed (tagOf z d c k) ≡ false → complete z d c ≡ false
+  unfolding complete pageProgrammed
+  incomplete k hk h = go (true-or-false (complete z d c))
+    where
+      go : (complete z d c ≡ true) ⊎ (complete z d c ≡ false) → complete z d c ≡ false
+      go (inl q) = absurd (true≢false (sym (all-below (z .p) (pageProgrammed z d c) (and-right (isCopy z d c) _ q) k hk) ∙ h))
+      go (inr q) = q
+
   pub blanks-most : blanks z d c ≤ z .p
   unfolding blanks
   blanks-most = count-le (z .p) (pageBlank z d c)
@@ -42,30 +52,48 @@ module _ (z : Sizes) (d : Device) (c : ℕ) where
   unfolding givesOf
   gives-beyond h b i = rw (le-ltb c (body z) h)
 
+  -- ---- a bucket without a programmed page
+
+  module _ (unused : used z d c ≡ false) where
+    pub unused-epoch : epochOf z d c ≡ 0
+    unfolding epochOf
+    unused-epoch = rw unused
+
+    pub unused-no-write : isWrite z d c ≡ false
+    unfolding isWrite
+    unused-no-write = rw unused
+
+    pub unused-no-copy : complete z d c ≡ false
+    unfolding complete isCopy
+    unused-no-copy = rw unused
+
+    pub unused-gives : (b i : ℕ) → givesOf z d c b i ≡ none
+    unused-gives = gives-none unused-no-write
+
+    pub unused-holds : (b : ℕ) → holdsOf z d c b ≡ false
+    unused-holds = holds-none unused-no-copy
+
   -- ---- a bucket of blank pages
 
   module _ (p-pos : 1 ≤ z .p) (none-programmed : Blank z d c) where
     pub blank-unused : used z d c ≡ false
     unfolding used
-    blank-unused = rw (head-blank z p-pos d c none-programmed, blank-ff)
+    blank-unused = rw (head-blank z p-pos d c none-programmed) programmed-ff
 
     pub blank-epoch : epochOf z d c ≡ 0
-    unfolding epochOf
-    blank-epoch = rw blank-unused
+    blank-epoch = unused-epoch blank-unused
 
     pub blank-no-write : isWrite z d c ≡ false
-    unfolding isWrite
-    blank-no-write = rw blank-unused
+    blank-no-write = unused-no-write blank-unused
 
     pub blank-no-copy : complete z d c ≡ false
-    unfolding complete isCopy
-    blank-no-copy = rw blank-unused
+    blank-no-copy = unused-no-copy blank-unused
 
     pub blank-gives : (b i : ℕ) → givesOf z d c b i ≡ none
-    blank-gives = gives-none blank-no-write
+    blank-gives = unused-gives blank-unused
 
     pub blank-holds : (b : ℕ) → holdsOf z d c b ≡ false
-    blank-holds = holds-none blank-no-copy
+    blank-holds = unused-holds blank-unused
 
   -- ---- a Write bucket
 

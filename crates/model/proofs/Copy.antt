@@ -10,25 +10,26 @@ use native.Mathlib.Decide.{ℕ-discrete, decLt}
 use lib.ListN.{length, getD, List·getD-eq-default}
 use lib.Dec.{eqb}
 use borrow.Author.Tests.{ne-eqb, eq-eqb}
-use Rattle.lists.specs.Lists.{times, ff}
+use Rattle.lists.specs.Lists.{times, allBelow, ff}
 use Rattle.lists.proofs.Tests.{and-false}
+use Rattle.lists.proofs.Rows.{below-all}
 use Rattle.model.specs.declared.Sizes.{Sizes}
 use Rattle.model.specs.Sizes.{Device, bucketSize, pagesFor, body}
 use Rattle.model.specs.Stores.{Store, erase, apply, applyAll, tagOf, bucketBytes, diskBytes}
-use Rattle.model.specs.Spare.{readKind, writeKind, dirtyKind}
-use Rattle.model.specs.Image.{used, epochOf, backOf, isWrite, isCopy, isDirty, complete, headTag}
+use Rattle.model.specs.Spare.{programmed, readKind, writeKind, dirtyKind}
+use Rattle.model.specs.Image.{used, epochOf, backOf, isWrite, isCopy, isDirty, pageProgrammed, complete, headTag}
 use Rattle.model.specs.Steps.{logStore, logStores}
 use Rattle.model.proofs.Views.{Lay, SafeAt, Quiet, silent, Kept, apart, safe-still, safe-copy, lay-quiet, lay-base}
 use Rattle.model.proofs.Safe.{holdsOf, view, plainAt, Safe, Chip, Sound, Along, Ready}
 use Rattle.model.proofs.Limits.{Limits, pages-whole, on-chip}
-use Rattle.model.proofs.Tags.{blank-ff}
+use Rattle.model.proofs.Tags.{programmed-ff}
 use Rattle.model.proofs.Frames.{Lengths, length-bucket, tag-erased}
 use Rattle.model.proofs.Runs.{Stepwise, Run, run-end, run-along}
 use Rattle.model.proofs.Show.{Same, same-refl, same-trans, epochOf-same, quiet-same, kept-same, same-erase}
-use Rattle.model.proofs.Buckets.{gives-none, holds-none, blank-epoch, blank-no-write, holds-parts, holds-from, holds-other}
+use Rattle.model.proofs.Buckets.{gives-none, holds-none, incomplete, blank-epoch, blank-no-write, holds-parts, holds-from, holds-other}
 use Rattle.model.proofs.FormedKept.{chip-lengths}
 use Rattle.model.proofs.Plain.{plain-beyond}
-use Rattle.model.proofs.Pages.{Log, tagAt, kind-at, epoch-at, back-at, blank-at, pageAt, fits-at, alike-at, disk-at, Stage, stage-erase, stage-next, written-head}
+use Rattle.model.proofs.Pages.{Log, tagAt, kind-at, epoch-at, back-at, programmed-at, pageAt, fits-at, alike-at, disk-at, Stage, stage-erase, stage-next, written-head}
 
 -- what holds where a copy of kind k may be made of b: a Read copy needs the disk's bytes under the logs to be plain
 abbrev pub Copyable : Sizes → (k b : ℕ) → List ℕ → Device → Type 0
@@ -121,8 +122,7 @@ module _ (z : Sizes) (bounds : Limits z) (c b e k : ℕ) (bytes : List ℕ) (hc 
     no-write (suc o) d w = rw (head-written o d w, kind-at bounds log 0, ne-eqb k writeKind (kinds .2)) (and-false (used z d c))
 
     not-yet : (o : ℕ) (d : Device) → o < z .p → Way o d → complete z d c ≡ false
-    unfolding complete
-    not-yet o d ho w = let q = w .stage .rest (z .p - 1) (omega arith) (omega arith) in rw (q, blank-ff) (and-false (isCopy z d c))
+    not-yet o d ho w = incomplete z d c o ho (ap programmed (w .stage .rest o (omega arith) ho) ∙ programmed-ff)
 
     -- ---- all pages
 
@@ -132,14 +132,14 @@ module _ (z : Sizes) (bounds : Limits z) (c b e k : ℕ) (bytes : List ℕ) (hc 
 
       is-used : used z d c ≡ true
       unfolding used
-      is-used = rw (first, blank-at bounds log 0)
+      is-used = rw first (programmed-at bounds log 0)
 
       is-complete : complete z d c ≡ true
-      unfolding complete isCopy
+      unfolding complete isCopy pageProgrammed
       is-complete =
-          let last : tagOf z d c (z .p - 1) ≡ tagAt bounds log (z .p - 1) =
-          ap (tagOf z d c) (sym (zero-add (z .p - 1))) ∙ w .stage .written (z .p - 1) (omega (arith, bounds .p-low)) in
-          rw (is-used, first, last, kind-at bounds log 0, blank-at bounds log (z .p - 1), ne-eqb k writeKind (kinds .2))
+          let all : allBelow (z .p) (pageProgrammed z d c) ≡ true =
+          below-all (z .p) (pageProgrammed z d c) (λ o h. ap programmed (ap (tagOf z d c) (sym (zero-add o)) ∙ w .stage .written o h) ∙ programmed-at bounds log o) in
+          rw (is-used, first, kind-at bounds log 0, all, ne-eqb k writeKind (kinds .2))
 
       is-back : backOf z d c ≡ b
       unfolding backOf
@@ -272,6 +272,7 @@ module _ (z : Sizes) (bounds : Limits z) (c b e k : ℕ) (bytes : List ℕ) (hc 
               old-bytes = λ j h. refl;
               content = λ j h hl. absurd (omega arith);
               others = λ c' h ne q. omega (arith, older c' h);
+              headed = λ h. absurd (omega arith);
             };
             older = λ c' h ne. omega (arith, older c' h);
           }

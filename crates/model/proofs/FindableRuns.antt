@@ -1,26 +1,24 @@
 -- Runs of stores that leave the ledger alone: what recovery finds after a cut in them.
 use Prim.Native.Nat.{ℕ, zero, suc, _+_, _*_, _≤_, _<_}
-use mathlib.Core.Path.{_≡_, refl, sym, ap, _∙_, subst}
-use mathlib.Core.Logic.{_⊎_, inl, inr}
-use mathlib.Core.Bool.{true, false}
+use mathlib.Core.Path.{_≡_, refl, sym, _∙_, subst}
+use mathlib.Core.Bool.{Bool}
 use mathlib.Core.List.{List, [], _∷_, _++_}
 use native.Mathlib.Omega.{arith}
 use native.Mathlib.Nat.{mul-le-mul-right, le-trans}
 use lib.ListN.{length, take}
 use Rattle.lists.specs.Lists.{row, part}
-use Rattle.lists.proofs.Tests.{true-or-false}
 use Rattle.lists.proofs.Rows.{below-alike}
 use Rattle.model.specs.declared.Sizes.{Sizes}
 use Rattle.model.specs.Sizes.{Device, body, pagesFor, pageIndex}
 use Rattle.model.specs.Stores.{Store, program, erase, unit, apply, applyAll, tagOf, unitStore, unitStores}
-use Rattle.model.specs.Spare.{blank, kind, epoch}
-use Rattle.model.specs.Ledger.{ledgerTag, entryFits, isPacked, packed, oneInUse}
+use Rattle.model.specs.Spare.{epoch}
+use Rattle.model.specs.Image.{isPacked, packed}
+use Rattle.model.specs.Ledger.{ledgerTag, entryFits, oneInUse}
 use Rattle.model.specs.State.{entryEpoch}
 use Rattle.model.specs.Steps.{logStore, logStores}
-use Rattle.model.specs.Promise.{Tear, torn}
+use Rattle.model.specs.Promise.{torn}
 use Rattle.model.proofs.Limits.{Limits}
-use Rattle.model.proofs.Tags.{blank-true}
-use Rattle.model.proofs.Safe.{Sound, Along, Cuts}
+use Rattle.model.proofs.Safe.{unspoiling, Sound, Along, Cuts}
 use Rattle.model.proofs.Frames.{Lengths, Fits, lengths-kept, tag-other-place, tag-unit}
 use Rattle.model.proofs.Prefix.{along-take}
 use Rattle.model.proofs.Formed.{top-least}
@@ -28,6 +26,7 @@ use Rattle.model.proofs.FormedKept.{chip-lengths}
 use Rattle.model.proofs.Pages.{Log, epoch-at, fits-at}
 use Rattle.model.proofs.LedgerKept.{New, Apart, Ledger, apart-unnamed, apart-program, apart-unit}
 use Rattle.model.proofs.Findable.{Findable, ordinary}
+use Rattle.model.proofs.LedgerErase.{entry-page}
 
 -- ---- a property of each store of a run
 
@@ -113,8 +112,8 @@ module _ (z : Sizes) where
 
   module _ (p-pos : 1 ≤ z .p) where
     apart-store : (d : Device) → Lengths z d → (s : Store) → Harmless d s → Apart z d → Apart z (apply z d s)
-    apart-store d L (program c k bytes tag) h a = apart-program z p-pos d L c k bytes tag (h .2) (h .0) (h .1) a
-    apart-store d L (unit u bytes) h a = apart-unit z p-pos d u bytes a
+    apart-store d L (program c k bytes tag) h a = apart-program z d L c k bytes tag (h .2) (h .0) (h .1) a
+    apart-store d L (unit u bytes) h a = apart-unit z d u bytes a
 
     ledger-store : (d : Device) → Lengths z d → (n : ℕ) → (s : Store) → Harmless d s → Ledger z d n → Ledger z (apply z d s) n
     ledger-store d L n s h l = ledger-as d (apply z d s) n (store-still d L s h) (apart-store d L s h (l .apart)) l
@@ -131,13 +130,13 @@ module _ (z : Sizes) where
     pub sound-found : (plain : List ℕ) (d : Device) (n : ℕ) → n ≤ 4294967296 → Ledger z d n → Sound z plain d → Findable z plain d
     sound-found plain d n high l s =
         let top = top-least z d 4294967295 (λ c hc. omega (arith, s .chip .epochs c hc)) (λ i hi. omega (arith, l .below-next i hi)) in
-        ordinary z p-pos plain d (chip-lengths z (s .chip)) s (l .entries) (λ c hc u. apart-unnamed z p-pos d (l .apart) c u) (omega (arith, top))
+        ordinary z plain d (chip-lengths z (s .chip)) s (l .entries) (λ c hc u. apart-unnamed z p-pos d (l .apart) c u) (omega (arith, top))
 
     -- such a store is not torn
-    cut-found : (plain : List ℕ) (d : Device) (s : Store) (ss : List Store) → Harmless d s → Findable z plain d → (t : Tear) → Findable z plain (torn z t d (s ∷ ss))
+    cut-found : (plain : List ℕ) (d : Device) (s : Store) (ss : List Store) → Harmless d s → Findable z plain d → (blanked : ℕ → Bool) → Findable z plain (torn z (unspoiling blanked) d (s ∷ ss))
     unfolding torn
-    cut-found plain d (program c k bytes tag) ss h f t = f
-    cut-found plain d (unit u bytes) ss h f t = f
+    cut-found plain d (program c k bytes tag) ss h f blanked = f
+    cut-found plain d (unit u bytes) ss h f blanked = f
 
     pub findable-cuts : (plain : List ℕ) (ss : List Store) (d : Device) (n : ℕ) → n ≤ 4294967296 → Each (Harmless d) ss → Ledger z d n
         → ((m : ℕ) → m < length ss → Sound z plain (applyAll z d (take m ss))) → Cuts z (Findable z plain) d ss
@@ -157,12 +156,10 @@ module _ (z : Sizes) where
 
   -- entries are older than the next epoch
   pub next-new : (d : Device) (n : ℕ) → Ledger z d n → (c : ℕ) → New z d c n
-  unfolding entryEpoch kind
-  next-new d n l c i hi kd b q = go (true-or-false (blank (ledgerTag z d i))) (l .below-next i hi)
-    where
-      go : (blank (ledgerTag z d i) ≡ true) ⊎ (blank (ledgerTag z d i) ≡ false) → entryEpoch z d i < n → ⊥
-      go (inl t) h = let k : kind (ledgerTag z d i) ≡ 255 = ap kind (blank-true _ t) in omega arith
-      go (inr t) h = omega (arith, q, rw t at h)
+  unfolding entryEpoch
+  next-new d n l c i hi kd b q =
+      let h = l .below-next i hi in
+      omega (arith, q, rw (entry-page (ledgerTag z d i) kd) at h)
 
   pub log-harmless : (B : Limits z) (c first k e b off : ℕ) (bytes : List ℕ) → Log z c first k e b off bytes → (d : Device) → New z d c e → Each (Harmless d) (logStores z c first k e b off bytes)
   unfolding logStores logStore

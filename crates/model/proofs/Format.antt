@@ -14,14 +14,12 @@ use Rattle.lists.proofs.Orders.{times-below}
 use Rattle.model.specs.declared.Sizes.{Sizes}
 use Rattle.model.specs.Sizes.{Device, limits, lengths, body}
 use Rattle.model.specs.Stores.{applyAll, tagOf, diskBytes}
-use Rattle.model.specs.Spare.{blank}
 use Rattle.model.specs.Image.{epochOf}
 use Rattle.model.specs.State.{holds, isMarked, caches, backs, recordOf, entry}
 use Rattle.model.specs.Operations.{format}
 use Rattle.model.proofs.Views.{uncopied, bare}
 use Rattle.model.proofs.Safe.{givesOf, holdsOf, plainAt, Safe, Chip}
 use Rattle.model.proofs.Invariant.{Inv}
-use Rattle.model.proofs.Tags.{blank-ff}
 use Rattle.model.proofs.Limits.{limits-of, on-chip}
 use Rattle.model.proofs.Frames.{Lengths, lengths-of}
 use Rattle.model.proofs.FormedKept.{chip-of, blank-fits}
@@ -77,7 +75,7 @@ module _ (z : Sizes) (fits : limits z ≡ true) (d : Device) (lent : lengths z d
   wiped-chip : Chip z (gone z d (below (z .c)))
   wiped-chip = chip-of z wiped (gone-lengths z (below (z .c)) all-below d L)
       (record {
-        pages-fit = λ c k hc hk. blank-fits z p-pos wiped c k (ap blank (wiped-blank c (on-chip z c hc) k hk) ∙ blank-ff);
+        buckets-fit = λ c hc. blank-fits z p-pos wiped c (wiped-blank c (on-chip z c hc));
         epochs-differ = λ c e hc he u. absurd (true≢false (sym u ∙ blank-unused z wiped c p-pos (wiped-blank c (on-chip z c hc))));
       })
       (λ c hc. rw (wiped-epoch c hc) (omega arith))

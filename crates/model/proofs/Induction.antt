@@ -3,21 +3,24 @@ use Prim.Native.Nat.{ℕ, _<_}
 use mathlib.Core.Path.{_≡_, refl, sym, ap, _∙_}
 use mathlib.Core.Bool.{Bool, true, false, true≢false}
 use mathlib.Core.List.{List, [], _∷_}
-use lib.ListN.{length, drop}
+use lib.ListN.{length, take, drop}
 use lib.Dec.{eqb}
 use Rattle.lists.specs.Lists.{if_then_else_, all, empty, part}
 use Rattle.model.specs.declared.Sizes.{Sizes}
 use Rattle.model.specs.declared.Answer.the-variants.{Done, Idle, Cut, Refused}
 use Rattle.model.specs.Tests.{firstFailed}
 use Rattle.model.specs.Sizes.{Device, limits, lengths}
-use Rattle.model.specs.Stores.{applyAll}
+use Rattle.model.specs.Stores.{Store, applyAll}
 use Rattle.model.specs.State.{State, stopped, countAgrees}
 use Rattle.model.specs.Operations.{format}
 use Rattle.model.specs.Calls.{Call, formatCall, readCall, writeCall, eraseCall, drainCall, recoverCall, Outcome, lentTests, runningTests, tests, refusal, isDone, isCut, sizesOf, planOf, doneAnswer, readBuffer, turnedDown, call}
 use Rattle.model.specs.Promise.{Lent, whole, other, Tear, Item, MayStand, MayBeLent, lentOf, leftOf, torn, afterCall, diskPlace, feed, isRefused, Kept, PartKept, Claim, Throughout, Promised}
+use Rattle.model.specs.StoresMade.{Rising}
+use Rattle.model.proofs.Limits.{limits-of}
 use Rattle.model.proofs.Frames.{lengths-test}
 use Rattle.model.proofs.Prefix.{cuts-at}
 use Rattle.model.proofs.Findable.{Findable, accepted-test}
+use Rattle.model.proofs.Spoiled.{torn-found, rising-at}
 use Rattle.model.proofs.Invariant.{Inv, Pays}
 use Rattle.model.proofs.Calling.{first-passed, feed-not}
 use Rattle.model.proofs.Outcomes.{cutShort, carriedOut, Ends, refused, cut, done, ends}
@@ -114,10 +117,11 @@ module _ (z : Sizes) (fits-limits : limits z ≡ true) where
   kept-part plain drainCall part o e = tt
   kept-part plain (recoverCall y) part o e = tt
 
-  -- what every call owes, the counts that it keeps, and what a read's buffer owes
+  -- what every call owes, the counts that it keeps, that its programs rise, and what a read's buffer owes
   pub record Owing : Type 0 where
     pub pays : (k : Call) → MayStand z k → Pays z k
     pub counts : (k : Call) (s : State) (d : Device) → sizesOf k s ≡ z → refusal k s d ≡ 0 → all (countAgrees z (applyAll z d (planOf k s d .stores))) (planOf k s d .state .writes) ≡ true
+    pub rises : (k : Call) (s : State) (d : Device) → sizesOf k s ≡ z → refusal k s d ≡ 0 → Rising z d (planOf k s d .stores)
     pub reads : (b off : ℕ) (buffer : List ℕ) (s : State) (d : Device) (plain : List ℕ) → Inv z s d plain → refusal (readCall b off buffer) s d ≡ 0
         → readBuffer (readCall b off buffer) s d ≡ part plain (diskPlace z b off) (length buffer)
 
@@ -155,10 +159,15 @@ module _ (z : Sizes) (fits-limits : limits z ≡ true) where
         inv = λ t. rw (sizes-of z k s may (i .sizes-are)) (record {
           sizes-are = i .sizes-are;
           plain-length = rw (feed-not z k Cut plain refl) (i .plain-length);
-          found = cuts-at z (Findable z (feed z k Cut plain)) d (planOf k s d .stores) (owing .pays k may s d plain fits-limits i r .cuts) n h t;
+          found = torn-found z (limits-of z fits-limits) (feed z k Cut plain) (applyAll z d (take n stores)) (drop n stores)
+              (rising-at z d stores (owing .rises k s d (sizes-of z k s may (i .sizes-are)) r) n)
+              (cuts-at z (Findable z (feed z k Cut plain)) d stores (owing .pays k may s d plain fits-limits i r .cuts) n h) t;
           live = λ q. absurd (true≢false (sym q));
         });
       }
+        where
+          stores : List Store
+          stores = planOf k s d .stores
 
       after-done : refusal k s d ≡ 0 → After (carriedOut n k s d)
       after-done r = record {

@@ -39,7 +39,7 @@ module _ (z : Sizes) where
     pub found : Findable z plain d
     pub live : s .running ≡ true → Live s d plain
 
-  -- what a call that is not refused owes, to the plain disk as its answer feeds it: each cut, however torn, and the whole plan. That its kept counts are true is
+  -- what a call that is not refused owes, to the plain disk as its answer feeds it: each cut that spoils no page, and the whole plan. That its kept counts are true is
   -- shown of every state, and given.
   pub record Owed (k : Call) (s : State) (d : Device) (plain : List ℕ) : Type 0 where
     pub cuts : Cuts z (Findable z (feed z k Cut plain)) d (planOf k s d .stores)

@@ -10,27 +10,28 @@ use lib.ListN.{length}
 use lib.Dec.{ltb, eqb}
 use borrow.Author.Tests.{ltb-true, lt-ltb, eq-eqb, ne-eqb}
 use Rattle.lists.specs.Lists.{if_then_else_, same, ff}
-use Rattle.lists.proofs.Tests.{true-or-false, and-right, and-true, or-left, or-second, or-cases}
+use Rattle.lists.proofs.Tests.{true-or-false, and-right, and-true, or-left, or-right, or-second}
 use Rattle.lists.proofs.Sames.{same-self}
 use Rattle.lists.proofs.Rows.{below-all}
 use Rattle.lists.proofs.Parts.{length-ff}
 use Rattle.model.specs.declared.Sizes.{Sizes}
 use Rattle.model.specs.Sizes.{Device, body, pageIndex}
 use Rattle.model.specs.Stores.{program, erase, apply, tagOf, diskBytes}
-use Rattle.model.specs.Spare.{blank, ledgerKind, kind, epoch, back, entryTag}
-use Rattle.model.specs.Image.{pageFits, headTag, used, epochOf}
-use Rattle.model.specs.Ledger.{ledgerTag, isEntry, entryFits, isPacked, packed, holdsEpoch, named, oneInUse, inUse, otherOf}
+use Rattle.model.specs.Spare.{blank, programmed, ledgerKind, kind, epoch, back, entryTag}
+use Rattle.model.specs.Image.{bucketFits, epochOf, isPacked, packed}
+use Rattle.model.specs.Ledger.{ledgerTag, isEntry, entryFits, holdsEpoch, named, oneInUse, inUse, otherOf}
 use Rattle.model.specs.State.{entryEpoch, topEpoch}
 use Rattle.model.proofs.Limits.{Limits, on-chip}
-use Rattle.model.proofs.Tags.{blank-ff, blank-true, length-tag, kind-tag, epoch-tag, back-tag}
+use Rattle.model.proofs.Tags.{programmed-ff, length-tag, kind-tag, epoch-tag, back-tag}
 use Rattle.model.proofs.Safe.{Chip, Sound}
 use Rattle.model.proofs.Frames.{Lengths, Fits, lengths-kept, tag-programmed, tag-other-place, tag-erased, disk-programmed, disk-erased}
-use Rattle.model.proofs.Show.{Same, same-sym, same-trans, same-program, same-erase, used-same, epochOf-same}
-use Rattle.model.proofs.Formed.{used-before, epoch-shared, epoch-used, top-least}
-use Rattle.model.proofs.FormedKept.{chip-lengths, chip-formed, chip-epoch, erased-unused}
+use Rattle.model.proofs.Show.{Same, same-sym, same-trans, same-program, same-erase, epochOf-same}
+use Rattle.model.proofs.Formed.{top-least}
+use Rattle.model.proofs.FormedKept.{chip-lengths, chip-formed, chip-epoch}
 use Rattle.model.proofs.LedgerKept.{Ledger, Apart, apart-unnamed}
-use Rattle.model.proofs.LedgerErase.{entry-real, Blanked, InLedger, Slot, slot-tag, slot-beyond, Names, named-at, named-by, names-still, entry-blanked, ledger-stays, blanked-erase}
-use Rattle.model.proofs.Findable.{Findable, noted}
+use Rattle.model.proofs.LedgerErase.{entry-page, entry-real, Blanked, InLedger, Slot, slot-tag, slot-beyond, Names, named-at, named-by, names-still, entry-blanked, ledger-stays, blanked-erase}
+use Rattle.model.proofs.BodyAlike.{blank-vacant}
+use Rattle.model.proofs.Findable.{epoch-own, Findable, noted}
 use Rattle.model.proofs.ProgramsLedger.{entry-programmed, Filled, InUse, Shape, shape-still}
 
 -- ---- what an entry says
@@ -56,11 +57,9 @@ module _ (z : Sizes) where
   -- it is for a bucket outside the ledger
   entry-for : (d : Device) (i : ℕ) → entryFits z d i ≡ true → kind (ledgerTag z d i) ≡ ledgerKind → back (ledgerTag z d i) < body z
   unfolding entryFits isEntry
-  entry-for d i fits k = go (or-cases _ _ fits)
-    where
-      go : (blank (ledgerTag z d i) ≡ true) ⊎ (isEntry z (ledgerTag z d i) ≡ true) → back (ledgerTag z d i) < body z
-      go (inl q) = absurd (entry-real (ledgerTag z d i) k (blank-true _ q))
-      go (inr q) = ltb-true _ _ (and-right (same (ledgerTag z d i) (entryTag (epoch (ledgerTag z d i)) (back (ledgerTag z d i)))) _ q)
+  entry-for d i fits k =
+      let q : isEntry z (ledgerTag z d i) ≡ true = or-right (not (programmed (ledgerTag z d i))) _ fits (ap not (entry-page (ledgerTag z d i) k)) in
+      ltb-true _ _ (and-right (same (ledgerTag z d i) (entryTag (epoch (ledgerTag z d i)) (back (ledgerTag z d i)))) _ q)
 
   -- ---- where the entry goes
 
@@ -122,16 +121,14 @@ module _ (z : Sizes) where
           let g = filled-packed d (s .other) 0 (u .unused) in
           (rw (← o) g, rw (← l) f, or-left (blank (tagOf z d (body z) 0)) _ (rw (← o) (u .unused .rest 0 (omega arith) p-pos)))
 
-  -- a programmed page has its bucket's epoch
-  epoch-own : (d : Device) (c : ℕ) → ((k : ℕ) → k < z .p → pageFits z d c k ≡ true) → (k : ℕ) → k < z .p → blank (tagOf z d c k) ≡ false → epoch (tagOf z d c k) ≡ epochOf z d c
-  unfolding used headTag
-  epoch-own d c fit k hk nb = epoch-shared z d c fit k hk nb ∙ sym (epoch-used z d c (rw (used-before z d c fit 0 k (omega arith) hk nb)))
-
-  holds-own : (d e : Device) (c k : ℕ) → tagOf z e c k ≡ tagOf z d c k → (blank (tagOf z d c k) ≡ false → epoch (tagOf z d c k) ≡ epochOf z d c)
-      → (blank (tagOf z d c k) ≡ true) ⊎ (blank (tagOf z d c k) ≡ false) → holdsEpoch z e c (epochOf z d c) k ≡ true
+  -- the pages of a bucket hold its epoch
+  holds-own : (d e : Device) (c : ℕ) → bucketFits z d c ≡ true → (k : ℕ) → k < z .p → tagOf z e c k ≡ tagOf z d c k → holdsEpoch z e c (epochOf z d c) k ≡ true
   unfolding holdsEpoch
-  holds-own d e c k q own (inl b) = or-left (blank (tagOf z e c k)) _ (ap blank q ∙ b)
-  holds-own d e c k q own (inr nb) = or-second (blank (tagOf z e c k)) _ (eq-eqb _ _ (ap epoch q ∙ own nb))
+  holds-own d e c fit k hk q = rw q (go (true-or-false (programmed (tagOf z d c k))))
+    where
+      go : (programmed (tagOf z d c k) ≡ true) ⊎ (programmed (tagOf z d c k) ≡ false) → holdsEpoch z d c (epochOf z d c) k ≡ true
+      go (inl p) = or-second (not (programmed (tagOf z d c k))) _ (eq-eqb _ _ (epoch-own z d c fit k hk p))
+      go (inr p) = or-left (not (programmed (tagOf z d c k))) _ (ap not p)
 
   -- ---- the chip d gets an entry for its bucket h
 
@@ -219,9 +216,9 @@ module _ (z : Sizes) where
       entered-entries i hi = go (n .left i hi)
         where
           go : Left e i → entryFits z e i ≡ true
-          go (new q) = rw q (or-second (blank tag) _ tag-entry)
+          go (new q) = rw q (or-second (not (programmed tag)) _ tag-entry)
           go (old q) = rw q (led .entries i hi)
-          go (gone q) = or-left (blank (ledgerTag z e i)) _ (ap blank q ∙ blank-ff)
+          go (gone q) = rw (q, programmed-ff)
 
       entered-epochs : (i : ℕ) → i < 2 * z .p → entryEpoch z e i < next
       unfolding entryEpoch
@@ -230,21 +227,16 @@ module _ (z : Sizes) where
           go : Left e i → entryEpoch z e i < next
           go (new q) = rw (q, entry-programmed (epochOf z d h) h, tag-epoch) h-old
           go (old q) = rw q (led .below-next i hi)
-          go (gone q) = rw (q, blank-ff) (omega (arith, h-old))
+          go (gone q) = rw (q, programmed-ff) (omega (arith, h-old))
 
       -- h is named: its pages hold the entry's epoch
       pub entered-named : named z e h ≡ true
       entered-named = named-by z e h page (n .inside) (record {
         is-entry = ap kind (n .is-new) ∙ entry-kind (epochOf z d h) h;
         is-for = ap back (n .is-new) ∙ tag-back;
-        agrees = λ k hk. subst (λ (x : ℕ). holdsEpoch z e h x k ≡ true) (sym (ap epoch (n .is-new) ∙ tag-epoch)) (holds k hk (true-or-false (blank (tagOf z d h k))));
+        agrees = λ k hk. subst (λ (x : ℕ). holdsEpoch z e h x k ≡ true) (sym (ap epoch (n .is-new) ∙ tag-epoch))
+            (holds-own d e h (chip-formed z chip .buckets-fit h hh) k hk (n .body-same h hh .tags-same k hk));
       })
-        where
-          fit : (k : ℕ) → k < z .p → pageFits z d h k ≡ true
-          fit k hk = chip-formed z chip .pages-fit h k hh hk
-
-          holds : (k : ℕ) → k < z .p → (blank (tagOf z d h k) ≡ true) ⊎ (blank (tagOf z d h k) ≡ false) → holdsEpoch z e h (epochOf z d h) k ≡ true
-          holds k hk q = holds-own d e h k (n .body-same h hh .tags-same k hk) (epoch-own d h fit k hk) q
 
       -- and no other bucket is that was not
       entered-older : (c : ℕ) → c < body z → c ≢ h → named z e c ≡ true → named z d c ≡ true
@@ -266,7 +258,7 @@ module _ (z : Sizes) where
 
       pub found-entered : next ≤ 4294967296 → (plain : List ℕ) → Sound z plain (apply z d (erase h)) → Findable z plain e
       found-entered high plain sound = noted z p-pos plain d (chip-formed z chip) (λ c hc u. apart-unnamed z p-pos d (led .apart) c u) h
-          (apply z d (erase h)) sound (λ c hc ne. same-erase z d L h h-in c ne) (tag-erased z d L h h-in)
+          (apply z d (erase h)) sound (λ c hc ne. same-erase z d L h h-in c ne) (blank-vacant z p-pos (apply z d (erase h)) h (tag-erased z d L h h-in))
           e (n .lens) (λ c hc. same-sym z (n .body-same c hc)) entered-entries entered-named entered-older (omega (arith, top)) (λ b. disk-erased z d L h h-in b ∙ sym (n .disk-same b))
         where
           p-pos : 1 ≤ z .p
@@ -289,27 +281,35 @@ module _ (z : Sizes) where
       blanked : Blanked z e erased h
       blanked = blanked-erase z e (n .lens) h (on-chip z h hh)
 
-      h-unused : used z erased h ≡ false
-      h-unused = erased-unused z (B .p-low) e (n .lens) h (on-chip z h hh)
+      -- h has no page left
+      h-none : (k : ℕ) → k < z .p → programmed (tagOf z erased h k) ≡ false
+      h-none k hk = ap programmed (tag-erased z e (n .lens) h (on-chip z h hh) k hk) ∙ programmed-ff
 
       entered-apart : Apart z erased
       unfolding Apart
-      entered-apart i hi = rw (ledger-stays z e erased h blanked hh i hi) (λ k u. go k u (n .left i hi))
+      entered-apart i k hi hk = rw (ledger-stays z e erased h blanked hh i hi) (λ kd p. go kd p (n .left i hi))
         where
+          -- page k of the bucket that the entry t is for
+          pageOf : List ℕ → List ℕ
+          pageOf t = tagOf z erased (back t) k
+
           Outdated : List ℕ → Type 0
-          Outdated t = epochOf z erased (back t) ≢ epoch t
+          Outdated t = epoch (pageOf t) ≢ epoch t
 
-          other : kind (ledgerTag z d i) ≡ ledgerKind → used z erased (back (ledgerTag z d i)) ≡ true → Dec (back (ledgerTag z d i) ≡ h) → Outdated (ledgerTag z d i)
-          other k u (yes q) = absurd (true≢false (sym u ∙ (ap (used z erased) q ∙ h-unused)))
-          other k u (no ne) =
+          for-h : (t : List ℕ) → back t ≡ h → programmed (pageOf t) ≡ true → Outdated t
+          for-h t q p = absurd (true≢false (sym p ∙ (ap (λ (x : ℕ). programmed (tagOf z erased x k)) q ∙ h-none k hk)))
+
+          other : kind (ledgerTag z d i) ≡ ledgerKind → programmed (pageOf (ledgerTag z d i)) ≡ true → Dec (back (ledgerTag z d i) ≡ h) → Outdated (ledgerTag z d i)
+          other kd p (yes q) = for-h (ledgerTag z d i) q p
+          other kd p (no ne) =
               let c = back (ledgerTag z d i) in
-              let s : Same z d erased c = same-trans z (n .body-same c (entry-for d i (led .entries i hi) k)) (same-sym z (blanked .others c ne)) in
-              λ q. led .apart i hi k (sym (used-same z (B .p-low) d erased c s) ∙ u) (sym (epochOf-same z (B .p-low) d erased c s) ∙ q)
+              let s : tagOf z erased c k ≡ tagOf z d c k = sym (blanked .others c ne .tags-same k hk) ∙ n .body-same c (entry-for d i (led .entries i hi) kd) .tags-same k hk in
+              λ q. led .apart i k hi hk kd (sym (ap programmed s) ∙ p) (sym (ap epoch s) ∙ q)
 
-          go : kind (ledgerTag z e i) ≡ ledgerKind → used z erased (back (ledgerTag z e i)) ≡ true → Left e i → Outdated (ledgerTag z e i)
-          go k u (new q) = absurd (true≢false (sym u ∙ (ap (used z erased) (ap back q ∙ tag-back) ∙ h-unused)))
-          go k u (gone q) = absurd (entry-real (ledgerTag z e i) k q)
-          go k u (old q) = subst Outdated (sym q) (other (sym (ap kind q) ∙ k) (sym (ap (λ (t : List ℕ). used z erased (back t)) q) ∙ u) (ℕ-discrete (back (ledgerTag z d i)) h))
+          go : kind (ledgerTag z e i) ≡ ledgerKind → programmed (pageOf (ledgerTag z e i)) ≡ true → Left e i → Outdated (ledgerTag z e i)
+          go kd p (new q) = for-h (ledgerTag z e i) (ap back q ∙ tag-back) p
+          go kd p (gone q) = absurd (entry-real (ledgerTag z e i) kd q)
+          go kd p (old q) = subst Outdated (sym q) (other (sym (ap kind q) ∙ kd) (sym (ap (λ (t : List ℕ). programmed (pageOf t)) q) ∙ p) (ℕ-discrete (back (ledgerTag z d i)) h))
 
       pub ledger-erased : Shape z e → Ledger z erased next
       unfolding entryFits entryEpoch

@@ -2,34 +2,37 @@
 use Prim.Native.Nat.{ℕ, zero, suc, _+_, _-_, _*_, _≤_, _<_}
 use mathlib.Core.Path.{_≡_, refl, sym, ap, _∙_, subst}
 use mathlib.Core.Logic.{_⊎_, inl, inr, _≢_}
-use mathlib.Core.Bool.{Bool, true, false}
+use mathlib.Core.Bool.{Bool, true, false, true≢false}
 use mathlib.Core.List.{List}
 use native.Mathlib.Omega.{arith}
 use native.Mathlib.Decide.{ℕ-discrete, decLt}
 use borrow.Author.Tests.{eqb-true, eq-eqb}
 use Rattle.lists.specs.Lists.{if_then_else_, part, ff}
-use Rattle.lists.proofs.Tests.{same-truth, or-left, every-at, every-more, every-none}
+use Rattle.lists.proofs.Tests.{same-truth, every-at, every-more, every-none}
 use Rattle.lists.proofs.Rows.{all-below, below-all, any-below, below-any}
 use Rattle.lists.proofs.Parts.{length-ff}
 use Rattle.model.specs.declared.Sizes.{Sizes}
 use Rattle.model.specs.Sizes.{Device, body, pageIndex}
 use Rattle.model.specs.Stores.{program, erase, apply, tagOf, diskBytes}
-use Rattle.model.specs.Spare.{blank, ledgerKind, kind, epoch, back}
+use Rattle.model.specs.Spare.{programmed, ledgerKind, kind, epoch, back}
 use Rattle.model.specs.Image.{headTag, used, epochOf}
 use Rattle.model.specs.Ledger.{ledgerTag, entryFits, holdsEpoch, names, named}
 use Rattle.model.specs.State.{entryEpoch, topEpoch}
 use Rattle.model.specs.Promise.{blankPage, halfErased}
-use Rattle.model.proofs.Tags.{blank-ff}
+use Rattle.model.proofs.Tags.{kind-real, programmed-ff}
 use Rattle.model.proofs.Frames.{Lengths, Fits, lengths-kept, tag-programmed, tag-other-page, tag-erased, disk-programmed, disk-erased}
-use Rattle.model.proofs.Heads.{Blank}
+use Rattle.model.proofs.Heads.{Vacant, head-blanked}
 use Rattle.model.proofs.Show.{Same, same-refl, same-sym, same-trans, same-program, same-erase, epoch-by}
 use Rattle.model.proofs.Formed.{epoch-top, entry-top, top-least, epoch-unused}
 use Rattle.model.proofs.Findable.{Findable, torn-body, torn-ledger}
 
--- a blank page is no entry
+-- an entry is programmed
+pub entry-page : (tag : List ℕ) → kind tag ≡ ledgerKind → programmed tag ≡ true
+entry-page tag k = kind-real tag (rw k (omega arith)) (rw k (omega arith))
+
+-- a blank page is none
 pub entry-real : (tag : List ℕ) → kind tag ≡ ledgerKind → tag ≢ ff 16
-unfolding kind
-entry-real tag k q = let h : _≡_ {A = ℕ} 255 4 = sym (ap kind q) ∙ k in absurd (omega arith)
+entry-real tag k q = true≢false (sym (entry-page tag k) ∙ (ap programmed q ∙ programmed-ff))
 
 module _ (z : Sizes) where
   -- e is d, but some pages of the bucket x are blank
@@ -160,7 +163,7 @@ module _ (z : Sizes) where
     where
       at : (k : ℕ) → k < z .p → (tagOf z e c k ≡ tagOf z d c k) ⊎ (tagOf z e c k ≡ ff 16) → holdsEpoch z e c (epoch (ledgerTag z e i)) k ≡ true
       at k hk (inl q) = rw (q, stays) (n .agrees k hk)
-      at k hk (inr q) = or-left (blank (tagOf z e c k)) _ (ap blank q ∙ blank-ff)
+      at k hk (inr q) = rw (q, programmed-ff)
 
   -- ---- what blank pages leave
 
@@ -186,15 +189,15 @@ module _ (z : Sizes) where
       where
         go : (ledgerTag z e i ≡ ledgerTag z d i) ⊎ (ledgerTag z e i ≡ ff 16) → entryFits z e i ≡ true
         go (inl q) = rw q (fits i hi)
-        go (inr q) = or-left (blank (ledgerTag z e i)) _ (ap blank q ∙ blank-ff)
+        go (inr q) = rw (q, programmed-ff)
 
     epoch-blanked : 1 ≤ z .p → (c : ℕ) → c < body z → epochOf z e c ≤ topEpoch z d
-    unfolding used headTag
-    epoch-blanked p-pos c hc = go (page-blanked c 0 p-pos)
+    unfolding used
+    epoch-blanked p-pos c hc = go (head-blanked z p-pos d e c (page-blanked c))
       where
-        go : (tagOf z e c 0 ≡ tagOf z d c 0) ⊎ (tagOf z e c 0 ≡ ff 16) → epochOf z e c ≤ topEpoch z d
+        go : (headTag z e c ≡ headTag z d c) ⊎ (headTag z e c ≡ ff 16) → epochOf z e c ≤ topEpoch z d
         go (inl q) = rw (epoch-by z d e c q) (epoch-top z d c hc)
-        go (inr q) = let u : used z e c ≡ false = rw (q, blank-ff) in omega (arith, epoch-unused z e c u)
+        go (inr q) = omega (arith, epoch-unused z e c (ap programmed q ∙ programmed-ff))
 
     entry-epoch-blanked : (i : ℕ) → i < 2 * z .p → entryEpoch z e i ≤ entryEpoch z d i
     unfolding entryEpoch
@@ -202,7 +205,7 @@ module _ (z : Sizes) where
       where
         go : (ledgerTag z e i ≡ ledgerTag z d i) ⊎ (ledgerTag z e i ≡ ff 16) → entryEpoch z e i ≤ entryEpoch z d i
         go (inl q) = rw q (omega arith)
-        go (inr q) = rw (q, blank-ff) (omega arith)
+        go (inr q) = rw (q, programmed-ff) (omega arith)
 
     top-blanked : 1 ≤ z .p → topEpoch z e ≤ topEpoch z d
     top-blanked p-pos = top-least z e (topEpoch z d) (epoch-blanked p-pos) (λ i hi. omega (arith, entry-epoch-blanked i hi, entry-top z d i hi))
@@ -245,7 +248,7 @@ module _ (z : Sizes) where
           go (inl q) = named-by d c (m .0) (m .1) (names-still e d c (m .0) (sym q) (λ k hk. inl (body-same c hc .tags-same k hk)) (m .2))
           go (inr q) = absurd (entry-real (ledgerTag z e (m .0)) (m .2 .is-entry) q)
 
-      -- a bucket that the entries named is blank, or another entry names it
-      pub found-ledger : 1 ≤ z .p → (plain : List ℕ) → Findable z plain d → ((c : ℕ) → c < body z → named z d c ≡ true → Blank z d c ⊎ (named z e c ≡ true)) → Findable z plain e
-      found-ledger p-pos plain f still = torn-ledger z p-pos plain d e f (b .lens) body-same (entries-blanked (f .accepted .entries)) fewer still
+      -- no bucket that they named has a programmed page
+      pub found-ledger : 1 ≤ z .p → (plain : List ℕ) → Findable z plain d → ((c : ℕ) → c < body z → named z d c ≡ true → Vacant z d c) → Findable z plain e
+      found-ledger p-pos plain f vacant = torn-ledger z p-pos plain d e f (b .lens) body-same (entries-blanked (f .accepted .entries)) fewer vacant
           (omega (arith, top-blanked p-pos, f .low)) (b .disk-same)

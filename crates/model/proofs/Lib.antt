@@ -20,6 +20,7 @@ pub mod QueuesErased
 pub mod LedgerKept
 pub mod Findable
 pub mod LedgerErase
+pub mod Spoiled
 pub mod BlankLedger
 pub mod BodyAlike
 pub mod LedgerEntry
@@ -36,6 +37,7 @@ pub mod InsideLive
 pub mod Steps
 pub mod MergeBytes
 pub mod FormedKept
+pub mod SpoiledChip
 pub mod RecoverBytes
 pub mod RecoverQueues
 pub mod Erases

@@ -16,7 +16,7 @@ use Rattle.model.specs.declared.Sizes.{Sizes}
 use Rattle.model.specs.Sizes.{Device, pagesFor, body}
 use Rattle.model.specs.Stores.{Store, erase, apply, applyAll, tagOf, diskBytes}
 use Rattle.model.specs.Spare.{blank, writeKind}
-use Rattle.model.specs.Image.{used, epochOf, backOf, isWrite, pageFits, blanks}
+use Rattle.model.specs.Image.{headTag, bucketFits, used, epochOf, backOf, isWrite, blanks}
 use Rattle.model.specs.Steps.{logStore, logStores}
 use Rattle.model.specs.Promise.{diskPlace}
 use Rattle.model.proofs.Views.{SafeAt, Quiet, same, silent, Kept, apart, safe-still, safe-move, safe-log, lay-quiet}
@@ -30,9 +30,10 @@ use Rattle.model.proofs.Buckets.{gives-none, holds-none, blank-epoch, b
 use Rattle.model.proofs.Formed.{blank-from, used-start, epoch-unused}
 use Rattle.model.proofs.FormedKept.{chip-lengths, chip-formed}
 use Rattle.model.proofs.Plain.{plain-others, plain-out, plain-in}
-use Rattle.model.proofs.Pages.{Log, tagAt, kind-at, epoch-at, back-at, blank-at, pageAt, fits-at, alike-at, disk-at, Started, Stage, stage-erase, stage-next, written-head}
+use Rattle.model.proofs.Pages.{Log, tagAt, kind-at, epoch-at, back-at, programmed-at, pageAt, fits-at, alike-at, disk-at, Started, Stage, stage-erase, stage-next, written-head}
 use Rattle.model.proofs.LogFound.{count-pos, found-before, found-in, found-out}
-use Rattle.model.proofs.Heads.{Blank, head-later, head-page}
+use Rattle.model.proofs.Heads.{Blank, head-page, head-programmed}
+use Rattle.model.proofs.Tags.{programmed-real}
 
 -- where the log goes: into a blank bucket with an epoch above all, or behind the last page of b's Write bucket
 pub data Place (z : Sizes) (d : Device) (c first e b : ℕ) : Type 0 where
@@ -127,9 +128,9 @@ module _ (z : Sizes) (bounds : Limits z) (c first e b off : ℕ) (bytes : List �
   by-first o d q =
       let h = written-head bounds log d q in
       begun
-      (rw (h, blank-at bounds log 0, kind-at bounds log 0))
+      (rw (h, programmed-at bounds log 0, kind-at bounds log 0))
       (rw (h, back-at bounds log 0))
-      (rw (h, blank-at bounds log 0, epoch-at bounds log 0))
+      (rw (h, programmed-at bounds log 0, epoch-at bounds log 0))
 
   head : (o : ℕ) (d : Device) → On o d → Head o d
   head o d s = go (decLt 0 first) (decLt 0 o)
@@ -137,7 +138,7 @@ module _ (z : Sizes) (bounds : Limits z) (c first e b off : ℕ) (bytes : List �
       go : Dec (0 < first) → Dec (0 < o) → Head o d
       go (yes u) v =
           let t = started u in
-          let q = head-later z d₀ d c first u (s .before) in
+          let q = s .headed u in
           begun (write-by z d₀ d c q ∙ t .is-write) (back-by z d₀ d c q ∙ t .back-is) (epoch-by z d₀ d c q ∙ t .epoch-is)
       go (no u) (yes v) = by-first o d (ap (tagOf z d c) (omega arith) ∙ s .written 0 v)
       go (no u) (no v) = unbegun (omega arith) (omega arith) (λ p hp. s .rest p (omega arith) hp)
@@ -266,6 +267,7 @@ module _ (z : Sizes) (bounds : Limits z) (c first e b off : ℕ) (bytes : List �
         old-bytes = λ j h. refl;
         content = λ j h hl. absurd (omega arith);
         others = others-differ;
+        headed = λ h. refl;
       };
       newest = newest;
     }
@@ -318,10 +320,11 @@ pub behind-last : (z : Sizes) → 1 ≤ z .p → (d : Device) → Chip z d → (
 unfolding isWrite
 behind-last z p-pos d chip c hc w = behind w refl refl (used-start z d c fit (z .p - blanks z d c - 1) (omega (arith, some)))
   where
-    fit : (k : ℕ) → k < z .p → pageFits z d c k ≡ true
-    fit k hk = chip-formed z chip .pages-fit c k hc hk
+    fit : bucketFits z d c ≡ true
+    fit = chip-formed z chip .buckets-fit c hc
 
     some : 1 ≤ z .p - blanks z d c
     some =
-        let p = head-page z p-pos d c (and-left (used z d c) _ w) in
-        omega (arith, leb-false (z .p - blanks z d c) (p .page) (sym (blank-from z d c fit (p .page) (p .inside)) ∙ p .programmed))
+        let p = head-page z p-pos d c in
+        let real = programmed-real (headTag z d c) (head-programmed z d c (and-left (used z d c) _ w)) .0 in
+        omega (arith, leb-false (z .p - blanks z d c) (p .page) (sym (blank-from z d c fit (p .page) (p .inside)) ∙ (sym (ap blank (p .is)) ∙ real)))

@@ -20,11 +20,11 @@ use Rattle.model.specs.Spare.{writeKind, offset, extent}
 use Rattle.model.specs.Image.{endsLog, logBytes}
 use Rattle.model.proofs.Safe.{Chip, covers, found}
 use Rattle.model.proofs.Limits.{Limits, pages-hold, pages-some, on-chip}
-use Rattle.model.proofs.Tags.{blank-ff}
+use Rattle.model.proofs.Tags.{programmed-ff}
 use Rattle.model.proofs.Frames.{length-bucket}
 use Rattle.model.proofs.Formed.{log-inside}
 use Rattle.model.proofs.FormedKept.{chip-lengths, chip-formed}
-use Rattle.model.proofs.Pages.{Log, tagAt, ordinal-at, pages-at, offset-at, extent-at, blank-at, Started, Stage}
+use Rattle.model.proofs.Pages.{Log, tagAt, ordinal-at, pages-at, offset-at, extent-at, programmed-at, Started, Stage}
 
 module _ {z : Sizes} (bounds : Limits z) {c first e b off : ℕ} {bytes : List ℕ} (log : Log z c first writeKind e b off bytes)
     {d₀ : Device} (chip₀ : Chip z d₀) (started : 0 < first → Started bounds log d₀) where
@@ -47,7 +47,7 @@ module _ {z : Sizes} (bounds : Limits z) {c first e b off : ℕ} {bytes : List �
 
   covers-blank : (d : Device) (k i : ℕ) → tagOf z d c k ≡ ff 16 → covers z d c k i ≡ false
   unfolding covers endsLog
-  covers-blank d k i q = rw (q, blank-ff)
+  covers-blank d k i q = rw (q, programmed-ff)
 
   -- a page that does not end the log
   covers-open : (d : Device) (k o i : ℕ) → tagOf z d c k ≡ tag o → suc o < count → covers z d c k i ≡ false
@@ -55,7 +55,7 @@ module _ {z : Sizes} (bounds : Limits z) {c first e b off : ℕ} {bytes : List �
   covers-open d k o i q h =
       rw (
         q,
-        blank-at bounds log o,
+        programmed-at bounds log o,
         ordinal-at bounds log o,
         pages-at bounds log o,
         ne-eqb (o + 1) count (λ r. omega arith),
@@ -67,7 +67,7 @@ module _ {z : Sizes} (bounds : Limits z) {c first e b off : ℕ} {bytes : List �
   covers-last d k i q =
       rw (
         q,
-        blank-at bounds log (count - 1),
+        programmed-at bounds log (count - 1),
         ordinal-at bounds log (count - 1),
         pages-at bounds log (count - 1),
         eq-eqb (count - 1 + 1) count (omega (arith, count-pos)),
@@ -84,7 +84,7 @@ module _ {z : Sizes} (bounds : Limits z) {c first e b off : ℕ} {bytes : List �
       (length-bucket z d (chip-lengths z (s .chip)) c (on-chip z c (log .bucket-in)) ∙ sym (length-bucket z d₀ (chip-lengths z chip₀) c (on-chip z c (log .bucket-in))))
       (λ j hj. s .old-bytes j (omega (
         arith,
-        log-inside z d₀ c (λ k hk. chip-formed z chip₀ .pages-fit c k (log .bucket-in) hk) s-pos k
+        log-inside z d₀ c (chip-formed z chip₀ .buckets-fit c (log .bucket-in)) s-pos k
             (omega (arith, log .pages-in)) ends,
         mul-le-mul-right (z .s) h,
       ))))

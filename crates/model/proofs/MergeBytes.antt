@@ -21,7 +21,7 @@ use Rattle.model.specs.Recover.{mergeAll}
 use Rattle.model.proofs.Limits.{on-chip}
 use Rattle.model.proofs.Safe.{covers, found}
 use Rattle.model.proofs.Frames.{Lengths, length-bucket}
-use Rattle.model.proofs.Formed.{Formed, page-fields, ends-used, log-inside}
+use Rattle.model.proofs.Formed.{Formed, page-fields, ends-programmed, log-inside}
 
 unfoldable pub orElse : Option ℕ → ℕ → ℕ
 orElse none x = x
@@ -32,12 +32,12 @@ module _ (z : Sizes) (d : Device) (s-pos : 1 ≤ z .s) (lens : Lengths z d) (for
     pub length-log : (k : ℕ) → k < z .p → endsLog z d c k ≡ true → length (logBytes z d c k) ≡ extent (tagOf z d c k)
     unfolding logBytes bucketSize
     length-log k hk h = length-part-fits (bucketBytes z d c) _ (extent (tagOf z d c k))
-        (rw (length-bucket z d lens c (on-chip z c hc)) (omega (arith, log-inside z d c (λ j hj. formed .pages-fit c j hc hj) s-pos k hk h, mul-le-mul-right (z .s) hk)))
+        (rw (length-bucket z d lens c (on-chip z c hc)) (omega (arith, log-inside z d c (formed .buckets-fit c hc) s-pos k hk h, mul-le-mul-right (z .s) hk)))
 
     -- a complete log lies inside its back-end bucket
     log-fits : (l : List ℕ) → length l ≡ bucketSize z → (k : ℕ) → k < z .p → endsLog z d c k ≡ true → offset (tagOf z d c k) + length (logBytes z d c k) ≤ length l
     log-fits l e k hk h = rw (length-log k hk h, e)
-        (page-fields z d c (λ j hj. formed .pages-fit c j hc hj) k hk (ends-used z d c (λ j hj. formed .pages-fit c j hc hj) k h) .bytes-inside)
+        (page-fields z d c (formed .buckets-fit c hc) k hk (ends-programmed z d c (formed .buckets-fit c hc) k h) .bytes-inside)
 
     module _ (base : List ℕ) (base-length : length base ≡ bucketSize z) where
       pub length-mergeTo : (n : ℕ) → n ≤ z .p → length (mergeTo z d c base n) ≡ bucketSize z

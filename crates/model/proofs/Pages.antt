@@ -1,11 +1,11 @@
 -- Programming a log page by page: what stands in its bucket on the way. Each page keeps the chip well formed.
 use Prim.Native.Nat.{ℕ, zero, suc, _+_, _-_, _*_, _≤_, _<_}
-use mathlib.Core.Path.{_≡_, refl, sym, ap, _∙_}
+use mathlib.Core.Path.{_≡_, refl, sym, ap, _∙_, subst}
 use mathlib.Core.Logic.{_⊎_, inl, inr, _≢_}
 use mathlib.Core.Bool.{true, false}
 use mathlib.Core.List.{List, _++_}
 use native.Mathlib.Omega.{arith}
-use native.Mathlib.Decide.{ℕ-discrete}
+use native.Mathlib.Decide.{ℕ-discrete, decLt}
 use lib.ListN.{length, drop, getD, length-append, length-take, length-drop, List·getD-append}
 use lib.Seq.{getD-take, getD-drop}
 use borrow.Author.Tests.{eqb-true}
@@ -15,17 +15,17 @@ use Rattle.lists.proofs.Parts.{At, at, outside, inside, length-ff}
 use Rattle.model.specs.declared.Sizes.{Sizes}
 use Rattle.model.specs.Sizes.{Device, bucketSize, pagesFor, body}
 use Rattle.model.specs.Stores.{Store, program, erase, apply, tagOf, bucketBytes, diskBytes, pageBytes}
-use Rattle.model.specs.Spare.{blank, writeKind, kind, ordinal, pages, epoch, back, offset, extent, tagBytes}
+use Rattle.model.specs.Spare.{blank, spoiled, programmed, writeKind, kind, ordinal, pages, epoch, back, offset, extent, tagBytes}
 use Rattle.model.specs.Image.{used, epochOf, backOf, isWrite, headTag}
 use Rattle.model.proofs.Safe.{Chip}
 use Rattle.model.proofs.Limits.{Limits, on-chip}
-use Rattle.model.proofs.Tags.{length-tag, kind-tag, ordinal-tag, pages-tag, epoch-tag, back-tag, offset-tag, extent-tag, zeros-tag, blank-tag, blank-ff}
+use Rattle.model.proofs.Tags.{length-tag, kind-tag, ordinal-tag, pages-tag, epoch-tag, back-tag, offset-tag, extent-tag, zeros-tag, blank-ff, kind-real, programmed-real}
 use Rattle.model.proofs.Frames.{Lengths, Fits, page-in-bucket, tag-programmed, tag-other-page, bytes-programmed, disk-programmed}
-use Rattle.model.proofs.Rules.{Fields, Follows, begins, goes-on}
-use Rattle.model.proofs.Formed.{kind-shared, epoch-shared, back-shared, epoch-used, epoch-unused}
-use Rattle.model.proofs.FormedKept.{chip-lengths, chip-formed, chip-erase, chip-program, Next, erased-unused}
+use Rattle.model.proofs.Rules.{Fields}
+use Rattle.model.proofs.Formed.{epoch-used, epoch-unused}
+use Rattle.model.proofs.FormedKept.{chip-lengths, chip-erase, chip-program, head-kept, Follows, starts, carries-on, Next, first-page, later-page, erased-unused}
 use Rattle.model.proofs.Show.{Same, epochOf-same, same-program, same-erase}
-use Rattle.model.proofs.Heads.{head-first}
+use Rattle.model.proofs.Heads.{head-same, head-first}
 
 module _ (z : Sizes) (bytes : List ℕ) (o : ℕ) where
   pub length-page : length (pageBytes z bytes o) ≡ z .s
@@ -80,12 +80,15 @@ module _ {z : Sizes} (bounds : Limits z) {c first k e b off : ℕ} {bytes : List
   pub extent-at : (o : ℕ) → extent (tagAt o) ≡ length bytes
   extent-at o = extent-tag k o (pagesFor z (length bytes)) e b off (length bytes) (log .some-bytes) (omega (arith, log .bytes-in, bounds .size-high))
 
+  pub programmed-at : (o : ℕ) → programmed (tagAt o) ≡ true
+  programmed-at o = kind-real (tagAt o) (rw (kind-at o) (log .kind-low)) (rw (kind-at o) (omega (arith, log .kind-high)))
+
   pub blank-at : (o : ℕ) → blank (tagAt o) ≡ false
-  blank-at o = blank-tag k o (pagesFor z (length bytes)) e b off (length bytes) (omega (arith, log .kind-high))
+  blank-at o = programmed-real (tagAt o) (programmed-at o) .0
 
   -- the first page of a log that begins its bucket is the head
   pub written-head : (d : Device) → tagOf z d c 0 ≡ tagAt 0 → headTag z d c ≡ tagAt 0
-  written-head d q = head-first z d c (ap blank q ∙ blank-at 0) ∙ q
+  written-head d q = head-first z d c (ap spoiled q ∙ programmed-real (tagAt 0) (programmed-at 0) .1) ∙ q
 
   fields-at : (o : ℕ) → o < pagesFor z (length bytes) → Fields z (tagAt o)
   fields-at o ho = record {
@@ -104,15 +107,9 @@ module _ {z : Sizes} (bounds : Limits z) {c first k e b off : ℕ} {bytes : List
       go (inl q) = inl (kind-at o ∙ q)
       go (inr q) = inr (offset-at o ∙ q .0, extent-at o ∙ q .1)
 
-  follows-at : (o : ℕ) → suc o < pagesFor z (length bytes) → Follows (tagAt o) (tagAt (suc o))
-  follows-at o ho = record {
-    before-used = blank-at o;
-    kind-same = kind-at (suc o) ∙ sym (kind-at o);
-    epoch-same = epoch-at (suc o) ∙ sym (epoch-at o);
-    back-same = back-at (suc o) ∙ sym (back-at o);
-    goes = goes-on (ordinal-at (suc o) ∙ omega (arith, ordinal-at o)) (rw (ordinal-at (suc o), pages-at (suc o)) ho) (pages-at (suc o) ∙ sym (pages-at o)) (offset-at (suc o) ∙ sym (offset-at o))
-        (extent-at (suc o) ∙ sym (extent-at o));
-  }
+  follows-at : (o : ℕ) → suc o < pagesFor z (length bytes) → Follows z (tagAt o) (tagAt (suc o))
+  follows-at o ho = carries-on (programmed-at o) (ordinal-at (suc o) ∙ omega (arith, ordinal-at o)) (rw (ordinal-at (suc o), pages-at (suc o)) ho) (pages-at (suc o) ∙ sym (pages-at o))
+      (offset-at (suc o) ∙ sym (offset-at o)) (extent-at (suc o) ∙ sym (extent-at o))
 
   -- ---- the pages
 
@@ -148,6 +145,7 @@ module _ {z : Sizes} (bounds : Limits z) {c first k e b off : ℕ} {bytes : List
       pub old-bytes : (j : ℕ) → j < first * z .s → getD (bucketBytes z d c) j 0 ≡ getD (bucketBytes z d₀ c) j 0
       pub content : (j : ℕ) → j < o * z .s → j < length bytes → getD (bucketBytes z d c) (first * z .s + j) 0 ≡ getD bytes j 0
       pub others : (c' : ℕ) → c' < body z → c' ≢ c → epochOf z d c' ≢ e
+      pub headed : 0 < first → headTag z d c ≡ headTag z d₀ c
 
     -- another bucket's erase
     pub stage-erase : (o : ℕ) (d : Device) (x : ℕ) → x < z .c → c ≢ x → o ≤ pagesFor z (length bytes) → Stage o d → Stage o (apply z d (erase x))
@@ -162,6 +160,7 @@ module _ {z : Sizes} (bounds : Limits z) {c first k e b off : ℕ} {bytes : List
           old-bytes = λ j hj. rw (sm .bytes-same) (s .old-bytes j hj);
           content = λ j hj hl. rw (sm .bytes-same) (s .content j hj hl);
           others = λ c' hc' ne'. apart c' hc' ne' (ℕ-discrete c' x);
+          headed = λ h. head-same z (bounds .p-low) d (apply z d (erase x)) c (sm .tags-same) ∙ s .headed h;
         }
       where
         apart : (c' : ℕ) → c' < body z → c' ≢ c → Dec (c' ≡ x) → epochOf z (apply z d (erase x)) c' ≢ e
@@ -175,58 +174,68 @@ module _ {z : Sizes} (bounds : Limits z) {c first k e b off : ℕ} {bytes : List
         apart c' hc' ne' (no q) r = s .others c' hc' ne'
             (sym (epochOf-same z (bounds .p-low) d (apply z d (erase x)) c' (same-erase z d (chip-lengths z (s .chip)) x hx c' q)) ∙ r)
 
-    -- what the next page stands behind
-    last-kind : (h : 0 < first) → kind (tagOf z d₀ c (first - 1)) ≡ k
-    unfolding isWrite
-    last-kind h =
-        let t = started h in
-        kind-shared z d₀ c (λ j hj. chip-formed z chip₀ .pages-fit c j (log .bucket-in) hj) (first - 1) (omega (arith, log .pages-in)) (t .last-used)
-        ∙ eqb-true _ _ (and-right (used z d₀ c) _ (t .is-write)) ∙ sym (t .kind-is)
+    -- what the head says of the bucket once it has a page
+    record Heading (d : Device) : Type 0 where
+      is-used : used z d c ≡ true
+      kind-is : kind (headTag z d c) ≡ k
+      epoch-is : epoch (headTag z d c) ≡ e
+      back-is : back (headTag z d c) ≡ b
 
-    last-back : (h : 0 < first) → back (tagOf z d₀ c (first - 1)) ≡ b
-    unfolding backOf
-    last-back h =
-        let t = started h in
-        back-shared z d₀ c (λ j hj. chip-formed z chip₀ .pages-fit c j (log .bucket-in) hj) (first - 1) (omega (arith, log .pages-in)) (t .last-used) ∙ t .back-is
-
-    last-epoch : (h : 0 < first) → epoch (tagOf z d₀ c (first - 1)) ≡ e
-    unfolding isWrite
-    last-epoch h =
-        let t = started h in
-        epoch-shared z d₀ c (λ j hj. chip-formed z chip₀ .pages-fit c j (log .bucket-in) hj) (first - 1) (omega (arith, log .pages-in)) (t .last-used)
-        ∙ sym (epoch-used z d₀ c (and-left (used z d₀ c) _ (t .is-write))) ∙ t .epoch-is
+    heading : (o : ℕ) (d : Device) → Stage o d → 0 < first + o → Heading d
+    unfolding used isWrite backOf
+    heading o d s h = go (decLt 0 first)
+      where
+        go : Dec (0 < first) → Heading d
+        go (yes q) =
+            let t = started q in
+            let u : used z d₀ c ≡ true = and-left (used z d₀ c) _ (t .is-write) in
+            record {
+              is-used = ap programmed (s .headed q) ∙ u;
+              kind-is = ap kind (s .headed q) ∙ (eqb-true _ _ (and-right (used z d₀ c) _ (t .is-write)) ∙ sym (t .kind-is));
+              epoch-is = ap epoch (s .headed q) ∙ (sym (epoch-used z d₀ c u) ∙ t .epoch-is);
+              back-is = ap back (s .headed q) ∙ t .back-is;
+            }
+        go (no q) =
+            let f : first + 0 ≡ 0 = omega arith in
+            let w = written-head d (subst (λ (i : ℕ). tagOf z d c i ≡ tagAt 0) f (s .written 0 (omega arith))) in
+            record {
+              is-used = ap programmed w ∙ programmed-at 0;
+              kind-is = ap kind w ∙ kind-at 0;
+              epoch-is = ap epoch w ∙ epoch-at 0;
+              back-is = ap back w ∙ back-at 0;
+            }
 
     next-fits : (o : ℕ) (d : Device) → o < pagesFor z (length bytes) → Stage o d → (m : ℕ) → first + o ≡ m → Next z d c m (tagAt o)
-    next-fits zero d ho s zero q = (ordinal-at 0, rw (epoch-at 0) (log .epoch-high), λ c' hc ne r. s .others c' hc ne (r ∙ epoch-at 0))
+    next-fits zero d ho s zero q = first-page refl (ordinal-at 0) (rw (epoch-at 0) (log .epoch-high)) (λ c' hc ne r. s .others c' hc ne (r ∙ epoch-at 0))
     next-fits (suc o) d ho s zero q = absurd (omega arith)
     next-fits (suc o) d ho s (suc m) q =
         let w : tagOf z d c m ≡ tagAt o = ap (tagOf z d c) (omega arith) ∙ s .written o (omega arith) in
-        rw w (follows-at o ho)
+        let h = heading (suc o) d s (omega arith) in
+        later-page m refl (ap blank w ∙ blank-at o) (h .is-used) (kind-at (suc o) ∙ sym (h .kind-is)) (epoch-at (suc o) ∙ sym (h .epoch-is)) (back-at (suc o) ∙ sym (h .back-is)) (rw w (follows-at o ho))
     next-fits zero d ho s (suc m) q =
-        let h : 0 < first = omega arith in
+        let started-at : 0 < first = omega arith in
         let w : tagOf z d c m ≡ tagOf z d₀ c (first - 1) = s .before m (omega arith) ∙ ap (tagOf z d₀ c) (omega arith) in
-        rw w record {
-          before-used = started h .last-used;
-          kind-same = kind-at 0 ∙ sym (last-kind h);
-          epoch-same = epoch-at 0 ∙ sym (last-epoch h);
-          back-same = back-at 0 ∙ sym (last-back h);
-          goes = begins (ordinal-at 0) (kind-at 0 ∙ started h .kind-is);
-        }
+        let h = heading 0 d s (omega arith) in
+        later-page m refl (ap blank w ∙ started started-at .last-used) (h .is-used) (kind-at 0 ∙ sym (h .kind-is)) (epoch-at 0 ∙ sym (h .epoch-is)) (back-at 0 ∙ sym (h .back-is))
+        (starts (ordinal-at 0) (kind-at 0 ∙ started started-at .kind-is))
 
     -- the next page
     pub stage-next : (o : ℕ) (d : Device) → o < pagesFor z (length bytes) → Stage o d → Stage (suc o) (apply z d (pageAt o))
     stage-next o d ho s = record {
       chip = chip-program z (bounds .p-low) d c (first + o) (pageBytes z bytes o) (tagAt o) (fits-at o ho) (log .bucket-in) (s .chip)
-          (ap blank (s .rest (first + o) (omega arith) (omega (arith, log .pages-in))) ∙ blank-ff)
-          (fields-at o ho) (next-fits o d ho s (first + o) refl);
+          free (fields-at o ho) (next-fits o d ho s (first + o) refl);
       before = λ p hp. other p (λ q. omega arith) ∙ s .before p hp;
       written = λ q hq. put q hq (ℕ-discrete q o);
       rest = λ p hp hp'. other p (λ q. omega arith) ∙ s .rest p (omega arith) hp';
       old-bytes = λ j hj. ap (λ (l : List ℕ). getD l j 0) programmed ∙ old j hj (spliced j);
       content = λ j hj hl. ap (λ (l : List ℕ). getD l (first * z .s + j) 0) programmed ∙ new j hj hl (spliced (first * z .s + j));
       others = λ c' hc ne r. s .others c' hc ne (sym (epochOf-same z (bounds .p-low) d (apply z d (pageAt o)) c' (alike-at o ho d (s .chip) c' ne)) ∙ r);
+      headed = λ h. head-kept z (bounds .p-low) d c (first + o) (pageBytes z bytes o) (tagAt o) (fits-at o ho) (log .bucket-in) (s .chip) free (heading o d s (omega arith) .is-used) ∙ s .headed h;
     }
       where
+        free : blank (tagOf z d c (first + o)) ≡ true
+        free = ap blank (s .rest (first + o) (omega arith) (omega (arith, log .pages-in))) ∙ blank-ff
+
         lens : Lengths z d
         lens = chip-lengths z (s .chip)
 

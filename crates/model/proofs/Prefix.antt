@@ -2,6 +2,7 @@
 use Prim.Native.Nat.{ℕ, zero, suc, _+_, _*_, _≤_, _<_}
 use mathlib.Core.Path.{_≡_, refl, sym, subst}
 use mathlib.Core.Logic.{inl, inr, _≢_}
+use mathlib.Core.Bool.{Bool}
 use mathlib.Core.List.{List, [], _∷_, _++_, map, List·Memᴰ, List·Memᴰ·head, List·Memᴰ·tail}
 use native.Mathlib.Omega.{arith}
 use lib.ListN.{length, take, drop}
@@ -10,8 +11,8 @@ use Rattle.lists.proofs.Parts.{splice-comm, length-ff, Apart}
 use Rattle.model.specs.declared.Sizes.{Sizes}
 use Rattle.model.specs.Sizes.{Device, bucketSize, pageIndex}
 use Rattle.model.specs.Stores.{Store, program, erase, unit, apply, applyAll}
-use Rattle.model.specs.Promise.{Tear, torn}
-use Rattle.model.proofs.Safe.{Along, Cuts}
+use Rattle.model.specs.Promise.{torn}
+use Rattle.model.proofs.Safe.{unspoiling, Along, Cuts}
 use Rattle.model.proofs.Frames.{Lengths, Fits, row-apart, row-fits, page-in-flash, page-in-spare, bucket-in-flash, bucket-in-spare}
 
 module _ (z : Sizes) where
@@ -54,11 +55,12 @@ module _ (z : Sizes) where
   cuts-append Q d (erase c ∷ ss) ts a b = (a .0, cuts-append Q (apply z d (erase c)) ss ts (a .1) b)
   cuts-append Q d (unit u bytes ∷ ss) ts a b = (a .0, cuts-append Q (apply z d (unit u bytes)) ss ts (a .1) b)
 
-  pub cuts-at : (Q : Device → Type 0) (d : Device) (ss : List Store) → Cuts z Q d ss → (n : ℕ) → n < length ss → (t : Tear) → Q (torn z t (applyAll z d (take n ss)) (drop n ss))
+  pub cuts-at : (Q : Device → Type 0) (d : Device) (ss : List Store) → Cuts z Q d ss → (n : ℕ) → n < length ss → (blanked : ℕ → Bool)
+      → Q (torn z (unspoiling blanked) (applyAll z d (take n ss)) (drop n ss))
   unfolding applyAll
-  cuts-at Q d [] a n h t = absurd (omega arith)
-  cuts-at Q d (s ∷ ss) a zero h t = a .0 t
-  cuts-at Q d (s ∷ ss) a (suc n) h t = cuts-at Q (apply z d s) ss (a .1) n (omega arith) t
+  cuts-at Q d [] a n h blanked = absurd (omega arith)
+  cuts-at Q d (s ∷ ss) a zero h blanked = a .0 blanked
+  cuts-at Q d (s ∷ ss) a (suc n) h blanked = cuts-at Q (apply z d s) ss (a .1) n (omega arith) blanked
 
   -- ---- a row of stores that goes through the stages Q 0, Q 1, .., Q n
 

@@ -18,7 +18,7 @@ use Rattle.model.specs.Spare.{blank, tagBytes}
 use Rattle.model.specs.Image.{pageBlank, blanks}
 use Rattle.model.specs.Steps.{logStore, logStores}
 use Rattle.model.specs.StoresMade.{Rising}
-use Rattle.model.proofs.Tags.{length-tag, blank-tag}
+use Rattle.model.proofs.Tags.{length-tag, kind-tag, kind-programmed}
 use Rattle.model.proofs.Frames.{Lengths, Fits, lengths-kept, tag-programmed, tag-other-page, tag-other-bucket}
 use Rattle.model.proofs.Prefix.{row-end}
 use Rattle.model.proofs.Pages.{length-page}
@@ -101,7 +101,7 @@ module _ (z : Sizes) (c first k t b off : ℕ) (bytes : List ℕ) (hc : c < z .c
   }
     where
       now : (i : ℕ) → i < first + suc o → Dec (i ≡ first + o) → blank (tagOf z (apply z d (page o)) c i) ≡ false
-      now i hi (yes q) = rw q (ap blank (tag-programmed z d (s .lens) c (first + o) _ _ (page-fits o h)) ∙ blank-tag k o (pagesFor z (length bytes)) t b off (length bytes) hk)
+      now i hi (yes q) = rw q (ap blank (tag-programmed z d (s .lens) c (first + o) _ _ (page-fits o h)) ∙ kind-programmed (tagBytes k o (pagesFor z (length bytes)) t b off (length bytes)) (rw (kind-tag k o (pagesFor z (length bytes)) t b off (length bytes)) (omega arith)))
       now i hi (no ne) = ap blank (tag-other-page z d (s .lens) c (first + o) _ _ (page-fits o h) i ne) ∙ s .used i (omega arith)
 
   module _ (start : Stage z c first d₀ 0 d₀) where

@@ -16,19 +16,18 @@ use Rattle.lists.proofs.Parts.{length-ff}
 use Rattle.model.specs.declared.Sizes.{Sizes}
 use Rattle.model.specs.Sizes.{Device, body}
 use Rattle.model.specs.Stores.{Store, program, erase, apply, applyAll, tagOf}
-use Rattle.model.specs.Spare.{blank, ledgerKind, tagBytes, entryTag}
-use Rattle.model.specs.Image.{epochOf, pageBlank, blanks}
-use Rattle.model.specs.Ledger.{isPacked, packed, oneInUse, inUse, otherOf}
+use Rattle.model.specs.Spare.{blank, spoiled, programmed, ledgerKind, kind, tagBytes, entryTag}
+use Rattle.model.specs.Image.{epochOf, pageBlank, blanks, isPacked, packed}
+use Rattle.model.specs.Ledger.{oneInUse, inUse, otherOf}
 use Rattle.model.specs.Steps.{entryStore, entryStores}
 use Rattle.model.specs.StoresMade.{ledgerStores, Rising}
 use Rattle.model.proofs.Limits.{Limits}
-use Rattle.model.proofs.Tags.{length-tag, blank-ff}
+use Rattle.model.proofs.Tags.{length-tag, blank-ff, programmed-real}
 use Rattle.model.proofs.Frames.{Lengths, Fits, lengths-kept, tag-programmed, tag-other-page, tag-other-bucket, tag-erased, tag-kept}
 use Rattle.model.proofs.KeptCounts.{blanks-same}
 
--- an entry is no blank page
-pub entry-programmed : (e x : ℕ) → blank (entryTag e x) ≡ false
-unfolding blank entryTag tagBytes same
+pub entry-programmed : (e x : ℕ) → programmed (entryTag e x) ≡ true
+unfolding programmed blank spoiled kind entryTag tagBytes same
 entry-programmed e x = refl
 
 -- the stores of an entry: a hand-over erases the full bucket
@@ -60,7 +59,7 @@ module _ (z : Sizes) where
       go true = omega arith
       go false = omega arith
 
-  -- the first n pages of the bucket l are programmed, the others blank
+  -- the first n pages of the bucket l are used, entries or spoiled ones, the others blank
   pub record Filled (d : Device) (l n : ℕ) : Type 0 where
     pub few : n ≤ z .p
     pub used : (i : ℕ) → i < n → blank (tagOf z d l i) ≡ false
@@ -98,7 +97,7 @@ module _ (z : Sizes) where
       from : (i : ℕ) → i < z .p → blank (tagOf z d l i) ≡ leb (z .p - blanks z d l) i
       from i hi = count-last (z .p) (pageBlank z d l) (packed-after d l h) i hi
 
-  -- the ledger bucket l is in use, with n entries, and the other one, o, is blank
+  -- the ledger bucket l is in use, with n used pages, and the other one, o, is blank
   pub record InUse (d : Device) (l o n : ℕ) : Type 0 where
     pub bucket-in : body z ≤ l
     pub other-in : body z ≤ o
@@ -225,7 +224,7 @@ module _ (z : Sizes) where
         kept i ne = tag-other-page z d L c k _ _ (fits c k hc hk) i ne
 
         now : (i : ℕ) → i < k + 1 → Dec (i ≡ k) → blank (tagOf z (apply z d (entryAt c k)) c i) ≡ false
-        now i h (yes q) = rw q (ap blank (tag-programmed z d L c k _ _ (fits c k hc hk)) ∙ entry-programmed (epochOf z d x) x)
+        now i h (yes q) = rw q (ap blank (tag-programmed z d L c k _ _ (fits c k hc hk)) ∙ programmed-real (entryTag (epochOf z d x) x) (entry-programmed (epochOf z d x) x) .0)
         now i h (no ne) = ap blank (kept i ne) ∙ f .used i (omega arith)
 
     l-in : l < z .c

@@ -294,8 +294,8 @@ module _ (s : State) (d : Device) (pass : Passed s d) where
       first : Stage (s .sizes) (cacheOf b (s .writes)) (s .sizes .p - blanks (s .sizes) d (cacheOf b (s .writes))) d 0 d
       first = record {
         lens = lens s d pass;
-        used = λ i hi. used-start z d own (λ k hk. formed s d pass .pages-fit own k own-in hk) i (omega arith);
-        rest = λ i lo hi. ap blank (blank-end z d own (λ k hk. formed s d pass .pages-fit own k own-in hk) i (omega arith) hi) ∙ blank-ff;
+        used = λ i hi. used-start z d own (formed s d pass .buckets-fit own own-in) i (omega arith);
+        rest = λ i lo hi. ap blank (blank-end z d own (formed s d pass .buckets-fit own own-in) i (omega arith) hi) ∙ blank-ff;
         others = λ x i ne hi. refl;
       }
 

@@ -27,7 +27,7 @@ use Rattle.model.proofs.Buckets.{gives-write, holds-parts}
 use Rattle.model.proofs.QueuesErased.{gone, Below}
 use Rattle.model.proofs.Erases.{along-erases, without-gone}
 use Rattle.model.proofs.Retire.{none-unless, Without, retire-others, retire-copies, retire-logs}
-use Rattle.model.proofs.RecoverOrder.{Retired, old, copy, log, retired, in-gc, retired-below, phase-old, phase-chosen, phase-write, Precedes, ordered}
+use Rattle.model.proofs.RecoverOrder.{Retired, spent, old, copy, log, retired, in-gc, retired-below, spent-no-write, spent-unchosen, phase-old, phase-chosen, phase-write, Precedes, ordered}
 use Rattle.model.proofs.BucketKinds.{complete-copy, copy-no-write, write-used}
 use Rattle.model.proofs.RecoverChoice.{newest-chosen, Chosen, chosen-of, chosen-test, chosen-one, old-copy, old-is, dropped-copy, dropped-write, drop-flushes, flush-drops, flush-drops-copy}
 
@@ -138,6 +138,7 @@ module _ (z : Sizes) (d : Device) (F : Formed z d) where
           no-log x hx q k t = pick (in-done x t)
             where
               pick : Retired z d x → ⊥
+              pick (spent h o) = true≢false (sym q ∙ spent-no-write z d x o)
               pick (old h o) = true≢false (sym q ∙ copy-no-write z d x (old-is z d x o .0))
               pick (copy h o) = true≢false (sym q ∙ copy-no-write z d x (complete-copy z d x (dropped-copy z d x o .0 .is-complete)))
               pick (log h o) = true≢false (sym (drop-flushes z d x h o) ∙ rw k f)
@@ -150,6 +151,7 @@ module _ (z : Sizes) (d : Device) (F : Formed z d) where
               r = the-copy b c n
 
               drops : Retired z d c → isDroppedCopy z d c ≡ true
+              drops (spent h o) = absurd (true≢false (sym (chosen-test z d c (r .0)) ∙ spent-unchosen z d c o))
               drops (old h o) = absurd (true≢false (sym (chosen-test z d c (r .0)) ∙ old-is z d c o .1))
               drops (copy h o) = o
               drops (log h o) = absurd (true≢false (sym (dropped-write z d c o .0) ∙ copy-no-write z d c (complete-copy z d c (r .0 .is-complete))))

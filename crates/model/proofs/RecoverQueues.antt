@@ -9,7 +9,7 @@ use native.Mathlib.Omega.{arith}
 use native.Mathlib.Decide.{decLt}
 use lib.ListN.{length, length-map}
 use lib.Dec.{ltb, eqb}
-use borrow.Author.Tests.{lt-ltb, le-ltb, ltb-true, le-leb, not-true}
+use borrow.Author.Tests.{lt-ltb, le-ltb, ltb-true, le-leb}
 use Rattle.lists.specs.Lists.{if_then_else_, all, keep, member, times, distinct}
 use Rattle.lists.proofs.Tests.{and-left, and-true}
 use Rattle.lists.proofs.Rows.{count-le}
@@ -18,12 +18,14 @@ use Rattle.lists.proofs.Orders.{times-keep, member-in, times-sort, length-sort,
 use Rattle.model.specs.declared.Sizes.{Sizes}
 use Rattle.model.specs.declared.Entry.{Entry}
 use Rattle.model.specs.Sizes.{Device, body}
-use Rattle.model.specs.Spare.{writeKind, kind}
+use Rattle.model.specs.Spare.{spoiled, writeKind, kind}
+use Rattle.model.specs.Stores.{tagOf}
 use Rattle.model.specs.Image.{used, epochOf, backOf, isWrite, isCopy, pageBlank, blanks, headTag}
 use Rattle.model.specs.State.{entry, holds, cacheBucket, backBucket, caches, backs}
-use Rattle.model.specs.Recover.{buckets, byEpoch, isNewer, amongNewest, newest, isChosen, isOnly, keptWrites, isDroppedWrite, isRemaining, keptCopies, isDroppedCopy, isOldCopy, isFree, keptRead, keptWrite, rebuilt}
-use Rattle.model.proofs.Heads.{Blank}
-use Rattle.model.proofs.Formed.{Formed, unused-blank}
+use Rattle.model.specs.Recover.{buckets, byEpoch, isNewer, amongNewest, newest, isChosen, isOnly, keptWrites, isDroppedWrite, isRemaining, keptCopies, isDroppedCopy, isOldCopy, isFree, isSpent, keptRead, keptWrite, rebuilt}
+use Rattle.model.proofs.Heads.{Blank, head-first}
+use Rattle.model.proofs.Formed.{Formed, first-blank}
+use Rattle.model.proofs.Tags.{blank-true, spoiled-ff, programmed-ff}
 use Rattle.model.proofs.Buckets.{gives-write, holds-parts, holds-from}
 use Rattle.model.proofs.Retire.{none-unless}
 use Rattle.model.proofs.Queues.{Maps, maps-first}
@@ -103,30 +105,35 @@ module _ (z : Sizes) (d : Device) where
       go false e = member-times c l (rw e)
 
   -- the classes of one bucket, by what it is
-  classes : (used writes chosen keeps-copy keeps-write : Bool) → (chosen ≡ true → used && not writes ≡ true) → (keeps-copy ≡ true → chosen ≡ true) → (keeps-write ≡ true → used && writes ≡ true)
+  classes : (used writes chosen keeps-copy keeps-write free : Bool) → (chosen ≡ true → used && not writes ≡ true) → (keeps-copy ≡ true → chosen ≡ true) → (keeps-write ≡ true → used && writes ≡ true)
+      → (free ≡ true → used ≡ false)
       → (if keeps-copy then 1 else 0) + (if keeps-write then 1 else 0)
-      + ((if (used && not writes) && not chosen then 1 else 0) + ((if chosen && not keeps-copy then 1 else 0) + (if (used && writes) && not keeps-write then 1 else 0)))
-      + (if not used then 1 else 0) ≡ 1
-  classes true true true k l hc hk hl = absurd (true≢false (sym (hc refl)))
-  classes true true false true l hc hk hl = absurd (true≢false (sym (hk refl)))
-  classes true true false false true hc hk hl = refl
-  classes true true false false false hc hk hl = refl
-  classes true false true true true hc hk hl = absurd (true≢false (sym (hl refl)))
-  classes true false true true false hc hk hl = refl
-  classes true false true false true hc hk hl = absurd (true≢false (sym (hl refl)))
-  classes true false true false false hc hk hl = refl
-  classes true false false true l hc hk hl = absurd (true≢false (sym (hk refl)))
-  classes true false false false true hc hk hl = absurd (true≢false (sym (hl refl)))
-  classes true false false false false hc hk hl = refl
-  classes false w true k l hc hk hl = absurd (true≢false (sym (hc refl)))
-  classes false w false true l hc hk hl = absurd (true≢false (sym (hk refl)))
-  classes false w false false true hc hk hl = absurd (true≢false (sym (hl refl)))
-  classes false w false false false hc hk hl = refl
+      + ((if not free && not used then 1 else 0)
+      + ((if (used && not writes) && not chosen then 1 else 0) + ((if chosen && not keeps-copy then 1 else 0) + (if (used && writes) && not keeps-write then 1 else 0))))
+      + (if free then 1 else 0) ≡ 1
+  classes true w c k l true hc hk hl hf = absurd (true≢false (hf refl))
+  classes true true true k l false hc hk hl hf = absurd (true≢false (sym (hc refl)))
+  classes true true false true l false hc hk hl hf = absurd (true≢false (sym (hk refl)))
+  classes true true false false true false hc hk hl hf = refl
+  classes true true false false false false hc hk hl hf = refl
+  classes true false true true true false hc hk hl hf = absurd (true≢false (sym (hl refl)))
+  classes true false true true false false hc hk hl hf = refl
+  classes true false true false true false hc hk hl hf = absurd (true≢false (sym (hl refl)))
+  classes true false true false false false hc hk hl hf = refl
+  classes true false false true l false hc hk hl hf = absurd (true≢false (sym (hk refl)))
+  classes true false false false true false hc hk hl hf = absurd (true≢false (sym (hl refl)))
+  classes true false false false false false hc hk hl hf = refl
+  classes false w true k l f hc hk hl hf = absurd (true≢false (sym (hc refl)))
+  classes false w false true l f hc hk hl hf = absurd (true≢false (sym (hk refl)))
+  classes false w false false true f hc hk hl hf = absurd (true≢false (sym (hl refl)))
+  classes false w false false false true hc hk hl hf = refl
+  classes false w false false false false hc hk hl hf = refl
 
   -- how often the queues that recovery makes have a bucket
   abbrev recoveredPlaces : ℕ → ℕ
   recoveredPlaces c = times c (keptCopies z d) + times c (keptWrites z d)
-      + (times c (buckets z d (isOldCopy z d)) + (times c (buckets z d (isDroppedCopy z d)) + times c (buckets z d (isDroppedWrite z d))))
+      + (times c (buckets z d (isSpent z d))
+      + (times c (buckets z d (isOldCopy z d)) + (times c (buckets z d (isDroppedCopy z d)) + times c (buckets z d (isDroppedWrite z d)))))
       + times c (buckets z d (isFree z d))
 
   places-recovered : (n c : ℕ) → places (rebuilt z d n .state) c ≡ recoveredPlaces c
@@ -136,6 +143,7 @@ module _ (z : Sizes) (d : Device) where
         arith,
         times-slots (λ x. 0) (keptCopies z d) c,
         times-slots (blanks z d) (keptWrites z d) c,
+        times-append c (buckets z d (isSpent z d)) (byEpoch z d (buckets z d (isOldCopy z d)) ++ (byEpoch z d (buckets z d (isDroppedCopy z d)) ++ byEpoch z d (buckets z d (isDroppedWrite z d)))),
         times-append c (byEpoch z d (buckets z d (isOldCopy z d))) (byEpoch z d (buckets z d (isDroppedCopy z d)) ++ byEpoch z d (buckets z d (isDroppedWrite z d))),
         times-append c (byEpoch z d (buckets z d (isDroppedCopy z d))) (byEpoch z d (buckets z d (isDroppedWrite z d))),
         times-byEpoch c (buckets z d (isOldCopy z d)),
@@ -155,21 +163,28 @@ module _ (z : Sizes) (d : Device) where
   in-class : (t : ℕ → Bool) (c : ℕ) → c < body z → times c (buckets z d t) ≡ (if t c then 1 else 0)
   in-class t c h = times-buckets z d t c ∙ rw (lt-ltb c (body z) h)
 
+  -- a blank first page is the head
+  free-unused : (c : ℕ) → isFree z d c ≡ true → used z d c ≡ false
+  unfolding isFree used
+  free-unused c h = let b = blank-true (tagOf z d c 0) h in rw (head-first z d c (ap spoiled b ∙ spoiled-ff), b) programmed-ff
+
   once-inside : (c : ℕ) → c < body z → recoveredPlaces c ≡ 1
-  unfolding isOldCopy isDroppedCopy isDroppedWrite isFree isCopy isWrite
+  unfolding isSpent isOldCopy isDroppedCopy isDroppedWrite isCopy isWrite
   once-inside c h =
       rw (
         member-once c (keptCopies z d) (kept-copy-once c),
         member-once c (keptWrites z d) (kept-write-once c),
+        in-class (isSpent z d) c h,
         in-class (isOldCopy z d) c h,
         in-class (isDroppedCopy z d) c h,
         in-class (isDroppedWrite z d) c h,
         in-class (isFree z d) c h,
       )
-      (classes (used z d c) (eqb (kind (headTag z d c)) writeKind) (isChosen z d c) (member c (keptCopies z d)) (member c (keptWrites z d))
+      (classes (used z d c) (eqb (kind (headTag z d c)) writeKind) (isChosen z d c) (member c (keptCopies z d)) (member c (keptWrites z d)) (isFree z d c)
       (λ q. complete-copy z d c (chosen-of z d c q .is-complete))
       (λ q. chosen-test z d c (kept-copy z d c (member-in c (keptCopies z d) q) .0))
-      (λ q. kept-write z d c (member-in c (keptWrites z d) q) .0 .is-write))
+      (λ q. kept-write z d c (member-in c (keptWrites z d) q) .0 .is-write)
+      (free-unused c))
 
   pub once-recovered : (n c : ℕ) → places (rebuilt z d n .state) c ≡ (if ltb c (body z) then 1 else 0)
   once-recovered n c = places-recovered n c ∙ go (decLt c (body z))
@@ -187,6 +202,7 @@ module _ (z : Sizes) (d : Device) where
         arith,
         none (keptCopies z d) u (λ q. kept-copy z d c q .1),
         none (keptWrites z d) u (λ q. kept-write z d c q .1),
+        none (buckets z d (isSpent z d)) u (λ q. in-buckets z d (isSpent z d) c q .1),
         none (buckets z d (isOldCopy z d)) u (λ q. in-buckets z d (isOldCopy z d) c q .1),
         none (buckets z d (isDroppedCopy z d)) u (λ q. in-buckets z d (isDroppedCopy z d) c q .1),
         none (buckets z d (isDroppedWrite z d)) u (λ q. in-buckets z d (isDroppedWrite z d) c q .1),
@@ -267,4 +283,4 @@ module _ (z : Sizes) (d : Device) where
     unfolding rebuilt isFree
     free-recovered c h =
         let r = in-buckets z d (isFree z d) c h in
-        unused-blank z d c (λ j hj. F .pages-fit c j (r .1) hj) (not-true _ (r .0))
+        first-blank z d c (F .buckets-fit c (r .1)) (r .0)

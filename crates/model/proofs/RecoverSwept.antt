@@ -20,14 +20,14 @@ use Rattle.model.specs.Recover.{swept}
 use Rattle.model.specs.Promise.{torn}
 use Rattle.model.proofs.Limits.{Limits, on-chip}
 use Rattle.model.proofs.Safe.{Sound, Cuts}
-use Rattle.model.proofs.Heads.{Blank}
+use Rattle.model.proofs.Heads.{Blank, Vacant}
 use Rattle.model.proofs.Show.{same-sym, epochOf-same}
 use Rattle.model.proofs.Prefix.{applyAll-append, cuts-append}
 use Rattle.model.proofs.Formed.{epoch-top}
 use Rattle.model.proofs.Buckets.{blank-epoch}
 use Rattle.model.proofs.QueuesErased.{gone, Below, gone-same, gone-blank}
 use Rattle.model.proofs.LedgerKept.{Ledger}
-use Rattle.model.proofs.BodyAlike.{Alike, sound-alike}
+use Rattle.model.proofs.BodyAlike.{vacant-same, blank-vacant, Alike, sound-alike}
 use Rattle.model.proofs.Findable.{Findable, Shown, kept, goes, empty}
 use Rattle.model.proofs.LedgerErase.{Blanked, blanked-erase, blanked-half, named-same, found-body, body-same, fewer, found-ledger}
 use Rattle.model.proofs.BlankLedger.{blank-ledger}
@@ -46,26 +46,26 @@ module _ (z : Sizes) (B : Limits z) (plain : List ℕ) where
         let L = found d i .lens in
         let e : Device = apply z d (erase g) in
         let r = erases-cut gs (λ x t. ok x (omega (arith, times-cons x g gs))) e (step d e g (o .0) (blanked-erase z d L g (o .1)) i) in
-        ((λ t. found _ (step d _ g (o .0) (blanked-half z d L g (o .1) (t .blanked) (z .p) (omega arith)) i), r .0), r .1)
+        ((λ blanked. found _ (step d _ g (o .0) (blanked-half z d L g (o .1) blanked (z .p) (omega arith)) i), r .0), r .1)
 
-  -- every named bucket is blank
-  abbrev Spent : Device → Type 0
-  Spent d = (c : ℕ) → c < body z → named z d c ≡ true → Blank z d c
+  -- no named bucket has a programmed page
+  abbrev Gone : Device → Type 0
+  Gone d = (c : ℕ) → c < body z → named z d c ≡ true → Vacant z d c
 
   -- ---- then the chip is the one that recovery's erases are to make
 
-  module _ (d : Device) (f : Findable z plain d) (spent : Spent d) where
-    -- each bucket is the same, or blank in both
+  module _ (d : Device) (f : Findable z plain d) (none : Gone d) where
+    -- each bucket is the same, or has no programmed page in either
     alike : (c : ℕ) → c < body z → Alike z (f .swept) d c
     alike c hc = go (f .shown c hc)
       where
         go : Shown z d (f .swept) c → Alike z (f .swept) d c
         go (kept n s) = inl (same-sym z s)
-        go (goes n b) = inr (b, spent c hc n)
+        go (goes n b) = inr (b, none c hc n)
         go (empty b b') = inr (b', b)
 
-    spent-sound : Sound z plain d
-    spent-sound = sound-alike z (B .p-low) (f .swept) d alike plain (f .lens) (λ b. sym (f .disk-same b)) (f .sound)
+    gone-sound : Sound z plain d
+    gone-sound = sound-alike z (B .p-low) (f .swept) d alike plain (f .lens) (λ b. sym (f .disk-same b)) (f .sound)
 
   -- ---- the whole sweep
 
@@ -100,20 +100,21 @@ module _ (z : Sizes) (B : Limits z) (plain : List ℕ) where
             let n : named z e g ≡ true = i .1 g ∙ h .0 in
             (found-body z e e' g b (h .1) (B .p-low) plain (i .0) n, λ c. named-same z e e' g b (h .1) n c ∙ i .1 c)
 
-    naming-spent : Spent (gone z d names)
-    naming-spent c hc n = gone-blank z names (λ g t. on-chip z g (in-names g t .1)) d (f .lens) c (omega (arith, below-kept (named z d) c (body z) hc (sym (first .1 .1 c) ∙ n)))
+    naming-gone : Gone (gone z d names)
+    naming-gone c hc n = blank-vacant z (B .p-low) (gone z d names) c
+        (gone-blank z names (λ g t. on-chip z g (in-names g t .1)) d (f .lens) c (omega (arith, below-kept (named z d) c (body z) hc (sym (first .1 .1 c) ∙ n))))
 
     -- no named bucket has a page while the ledger goes
     abbrev Ending : Device → Type 0
-    Ending e = Findable z plain e × Spent e
+    Ending e = Findable z plain e × Gone e
 
     second : Cuts z (Findable z plain) (gone z d names) (map erase ledgers) × Ending (gone z (gone z d names) ledgers)
-    second = erases-cut Ending (λ g. body z ≤ g) (λ e i. i .0) step ledgers in-ledgers (gone z d names) (first .1 .0, naming-spent)
+    second = erases-cut Ending (λ g. body z ≤ g) (λ e i. i .0) step ledgers in-ledgers (gone z d names) (first .1 .0, naming-gone)
       where
         step : (e e' : Device) (g : ℕ) → body z ≤ g → Blanked z e e' g → Ending e → Ending e'
         step e e' g h b i = (
-          found-ledger z e e' g b h (B .p-low) plain (i .0) (λ c hc n. inl (i .1 c hc n)),
-          λ c hc n k hk. sym (body-same z e e' g b h c hc .tags-same k hk) ∙ i .1 c hc (fewer z e e' g b h c hc n) k hk,
+          found-ledger z e e' g b h (B .p-low) plain (i .0) (i .1),
+          λ c hc n. vacant-same z (B .p-low) e e' c (same-sym z (body-same z e e' g b h c hc)) (i .1 c hc (fewer z e e' g b h c hc n)),
         )
 
     -- ---- what is left
@@ -132,7 +133,7 @@ module _ (z : Sizes) (B : Limits z) (plain : List ℕ) where
     ending = subst Ending (sym (ap (applyAll z d) both ∙ applyAll-append z d (map erase names) (map erase ledgers))) (second .1)
 
     pub swept-sound : Sound z plain left
-    swept-sound = spent-sound left (ending .0) (ending .1)
+    swept-sound = gone-sound left (ending .0) (ending .1)
 
     swept-below : Below z (swept z d)
     unfolding swept

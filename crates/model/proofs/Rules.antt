@@ -1,20 +1,23 @@
--- The page rules of number 4 as facts of one tag, and of a tag and the one before it.
-use Prim.Native.Nat.{ℕ, _+_, _≤_, _<_}
-use mathlib.Core.Path.{_≡_, refl}
+-- The page rules of number 4 as facts: of one tag, and of a page in its bucket.
+use Prim.Native.Nat.{ℕ, zero, suc, _+_, _≤_, _<_}
+use mathlib.Core.Path.{_≡_, refl, sym, subst}
 use mathlib.Core.Logic.{_⊎_, inl, inr}
-use mathlib.Core.Bool.{Bool, true, false, _&&_, _||_}
+use mathlib.Core.Bool.{Bool, true, false, not, _&&_, _||_, true≢false}
 use mathlib.Core.List.{List}
 use native.Mathlib.Omega.{arith}
 use lib.Dec.{eqb}
-use borrow.Author.Tests.{eqb-true, leb-true, ltb-true, not-true, eq-eqb, le-leb, lt-ltb, ne-eqb}
-use Rattle.lists.specs.Lists.{if_then_else_}
-use Rattle.lists.proofs.Tests.{and-left, and-right, or-left, or-true, every-at, every-more, every-none, within-low, within-high, within-true}
+use borrow.Author.Tests.{eqb-true, leb-true, ltb-true, eq-eqb, le-leb, lt-ltb}
+use Rattle.lists.specs.Lists.{allBelow}
+use Rattle.lists.proofs.Tests.{and-left, and-right, and-true, or-left, or-right, or-second, or-true, or-cases, every-at, every-more, every-none, within-low, within-high, within-true}
+use Rattle.lists.proofs.Rows.{all-below, below-all}
 use Rattle.model.specs.declared.Sizes.{Sizes}
-use Rattle.model.specs.Sizes.{bucketSize, pagesFor}
-use Rattle.model.specs.Spare.{blank, writeKind, kind, ordinal, pages, epoch, back, offset, extent, zeros}
-use Rattle.model.specs.Image.{continues, follows, spansBucket, fieldsFit}
+use Rattle.model.specs.Sizes.{Device, bucketSize, pagesFor}
+use Rattle.model.specs.Stores.{tagOf}
+use Rattle.model.specs.Spare.{spoiled, programmed, writeKind, kind, ordinal, pages, epoch, back, offset, extent, zeros}
+use Rattle.model.specs.Image.{continues, shares, spansBucket, fieldsFit, headTag, pageSpoiled, beginsLog, continuesLog, pageFits}
+use Rattle.model.proofs.Tags.{kind-real}
 
--- of one non-blank page
+-- of one programmed page
 pub record Fields (z : Sizes) (tag : List ℕ) : Type 0 where
   pub kind-low : 1 ≤ kind tag
   pub kind-high : kind tag ≤ 3
@@ -59,42 +62,87 @@ fields-test z tag f =
     go (inl e) = or-left _ _ (eq-eqb _ _ e)
     go (inr q) = rw (eq-eqb (offset tag) 0 (q .0), eq-eqb (extent tag) (bucketSize z) (q .1)) (or-true (eqb (kind tag) writeKind))
 
--- a page goes on with the log of the page before it, or begins one
-pub data Goes (before tag : List ℕ) : Type 0 where
-  begins : ordinal tag ≡ 0 → kind tag ≡ writeKind → Goes before tag
-  goes-on : ordinal tag ≡ ordinal before + 1 → ordinal tag < pages tag → pages tag ≡ pages before → offset tag ≡ offset before → extent tag ≡ extent before → Goes before tag
+pub shares-test : (first tag : List ℕ) → kind tag ≡ kind first → epoch tag ≡ epoch first → back tag ≡ back first → shares first tag ≡ true
+unfolding shares
+shares-test first tag k e b = every-more _ _ (eq-eqb _ _ k) (every-more _ _ (eq-eqb _ _ e) (every-more _ _ (eq-eqb _ _ b) every-none))
 
-pub record Follows (before tag : List ℕ) : Type 0 where
-  pub before-used : blank before ≡ false
-  pub kind-same : kind tag ≡ kind before
-  pub epoch-same : epoch tag ≡ epoch before
-  pub back-same : back tag ≡ back before
-  pub goes : Goes before tag
+-- ---- a page in its bucket
 
-pub follows-of : (before tag : List ℕ) → follows before tag ≡ true → Follows before tag
-unfolding follows continues
-follows-of before tag h = record {
-  before-used = not-true _ (every-at _ h 0);
-  kind-same = eqb-true _ _ (every-at _ h 1);
-  epoch-same = eqb-true _ _ (every-at _ h 2);
-  back-same = eqb-true _ _ (every-at _ h 3);
-  goes = go (eqb (ordinal tag) 0) refl (every-at _ h 4);
-}
-  where
-    go : (t : Bool) → eqb (ordinal tag) 0 ≡ t → (if t then eqb (kind tag) writeKind else continues before tag) ≡ true → Goes before tag
-    go true e q = begins (eqb-true _ _ e) (eqb-true _ _ q)
-    go false e q = goes-on (eqb-true _ _ (every-at _ q 0)) (ltb-true _ _ (every-at _ q 4)) (eqb-true _ _ (every-at _ q 1)) (eqb-true _ _ (every-at _ q 2)) (eqb-true _ _ (every-at _ q 3))
+module _ (z : Sizes) (d : Device) (c : ℕ) where
+  -- page k begins a log, or goes on with that of the page before it
+  pub data Goes (k : ℕ) : Type 0 where
+    begins : ordinal (tagOf z d c k) ≡ 0 → (kind (tagOf z d c k) ≡ writeKind) ⊎ ((j : ℕ) → j < k → spoiled (tagOf z d c j) ≡ true) → Goes k
+    goes-on : (j : ℕ) → k ≡ suc j → programmed (tagOf z d c j) ≡ true → ordinal (tagOf z d c k) ≡ ordinal (tagOf z d c j) + 1 → ordinal (tagOf z d c k) < pages (tagOf z d c k)
+        → pages (tagOf z d c k) ≡ pages (tagOf z d c j) → offset (tagOf z d c k) ≡ offset (tagOf z d c j) → extent (tagOf z d c k) ≡ extent (tagOf z d c j) → Goes k
 
-pub follows-test : (before tag : List ℕ) → Follows before tag → follows before tag ≡ true
-unfolding follows continues
-follows-test before tag f =
-    every-more _ _ (rw (f .before-used))
-    (every-more _ _ (eq-eqb _ _ (f .kind-same))
-    (every-more _ _ (eq-eqb _ _ (f .epoch-same))
-    (every-more _ _ (eq-eqb _ _ (f .back-same))
-    (every-more _ _ (go (f .goes)) every-none))))
-  where
-    go : Goes before tag → (if eqb (ordinal tag) 0 then eqb (kind tag) writeKind else continues before tag) ≡ true
-    go (begins o k) = rw (eq-eqb (ordinal tag) 0 o) (eq-eqb _ _ k)
-    go (goes-on o u n f l) = rw (ne-eqb (ordinal tag) 0 (λ q. omega arith))
-        (every-more _ _ (eq-eqb _ _ o) (every-more _ _ (eq-eqb _ _ n) (every-more _ _ (eq-eqb _ _ f) (every-more _ _ (eq-eqb _ _ l) (every-more _ _ (lt-ltb _ _ u) every-none)))))
+  -- the rules for page k, which is programmed
+  pub record Ruled (k : ℕ) : Type 0 where
+    pub fields : Fields z (tagOf z d c k)
+    pub kind-same : kind (tagOf z d c k) ≡ kind (headTag z d c)
+    pub epoch-same : epoch (tagOf z d c k) ≡ epoch (headTag z d c)
+    pub back-same : back (tagOf z d c k) ≡ back (headTag z d c)
+    pub goes : Goes k
+
+  goes-of : (k : ℕ) → beginsLog z d c k || continuesLog z d c k ≡ true → Goes k
+  unfolding beginsLog continuesLog continues pageSpoiled
+  goes-of k h = go (or-cases (beginsLog z d c k) (continuesLog z d c k) h)
+    where
+      starts : beginsLog z d c k ≡ true → Goes k
+      starts q =
+          let r = and-right (eqb (ordinal (tagOf z d c k)) 0) _ q in
+          begins (eqb-true _ _ (and-left (eqb (ordinal (tagOf z d c k)) 0) _ q)) (pick (or-cases _ _ r))
+        where
+          pick : (eqb (kind (tagOf z d c k)) writeKind ≡ true) ⊎ (allBelow k (pageSpoiled z d c) ≡ true) → (kind (tagOf z d c k) ≡ writeKind) ⊎ ((j : ℕ) → j < k → spoiled (tagOf z d c j) ≡ true)
+          pick (inl w) = inl (eqb-true _ _ w)
+          pick (inr w) = inr (all-below k (pageSpoiled z d c) w)
+
+      later : (n : ℕ) → k ≡ n → continuesLog z d c n ≡ true → Goes k
+      later zero e q = absurd (true≢false (sym q))
+      later (suc j) e q =
+          let r = and-right (programmed (tagOf z d c j)) _ q in
+          goes-on j e (and-left (programmed (tagOf z d c j)) _ q)
+          (rw e (eqb-true _ _ (every-at _ r 0))) (rw e (ltb-true _ _ (every-at _ r 4))) (rw e (eqb-true _ _ (every-at _ r 1)))
+          (rw e (eqb-true _ _ (every-at _ r 2))) (rw e (eqb-true _ _ (every-at _ r 3)))
+
+      go : (beginsLog z d c k ≡ true) ⊎ (continuesLog z d c k ≡ true) → Goes k
+      go (inl q) = starts q
+      go (inr q) = later k refl q
+
+  goes-test : (k : ℕ) → Goes k → beginsLog z d c k || continuesLog z d c k ≡ true
+  unfolding beginsLog continuesLog continues pageSpoiled
+  goes-test k (begins o w) = or-left (beginsLog z d c k) (continuesLog z d c k) (and-true (eq-eqb _ _ o) (pick w))
+    where
+      pick : (kind (tagOf z d c k) ≡ writeKind) ⊎ ((j : ℕ) → j < k → spoiled (tagOf z d c j) ≡ true) → eqb (kind (tagOf z d c k)) writeKind || allBelow k (pageSpoiled z d c) ≡ true
+      pick (inl q) = or-left _ _ (eq-eqb _ _ q)
+      pick (inr q) = or-second (eqb (kind (tagOf z d c k)) writeKind) _ (below-all k (pageSpoiled z d c) q)
+  goes-test k (goes-on j e p o u n f l) = or-second (beginsLog z d c k) (continuesLog z d c k) (subst (λ (i : ℕ). continuesLog z d c i ≡ true) (sym e)
+      (and-true p (every-more _ _ (eq-eqb _ _ (rw e at o)) (every-more _ _ (eq-eqb _ _ (rw e at n)) (every-more _ _ (eq-eqb _ _ (rw e at f)) (every-more _ _ (eq-eqb _ _ (rw e at l)) (every-more _ _ (lt-ltb _ _ (rw e at u)) every-none)))))))
+
+  pub ruled-of : (k : ℕ) → pageFits z d c k ≡ true → programmed (tagOf z d c k) ≡ true → Ruled k
+  unfolding pageFits shares
+  ruled-of k h p =
+      let r = or-right (not (programmed (tagOf z d c k))) _ h (rw p) in
+      let s = every-at _ r 1 in
+      record {
+        fields = fields-of z (tagOf z d c k) (every-at _ r 0);
+        kind-same = eqb-true _ _ (every-at _ s 0);
+        epoch-same = eqb-true _ _ (every-at _ s 1);
+        back-same = eqb-true _ _ (every-at _ s 2);
+        goes = goes-of k (every-at _ r 2);
+      }
+
+  pub ruled-test : (k : ℕ) → Ruled k → pageFits z d c k ≡ true
+  unfolding pageFits
+  ruled-test k r = or-second (not (programmed (tagOf z d c k))) _
+      (every-more _ _ (fields-test z (tagOf z d c k) (r .fields))
+      (every-more _ _ (shares-test (headTag z d c) (tagOf z d c k) (r .kind-same) (r .epoch-same) (r .back-same))
+      (every-more _ _ (goes-test k (r .goes)) every-none)))
+
+  -- a page that is not programmed has no rules but its place
+  pub unruled-test : (k : ℕ) → programmed (tagOf z d c k) ≡ false → pageFits z d c k ≡ true
+  unfolding pageFits
+  unruled-test k h = or-left (not (programmed (tagOf z d c k))) _ (rw h)
+
+-- a page that fits by its fields is programmed
+pub fields-real : (z : Sizes) (tag : List ℕ) → Fields z tag → programmed tag ≡ true
+fields-real z tag f = kind-real tag (f .kind-low) (omega (arith, f .kind-high))

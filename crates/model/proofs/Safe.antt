@@ -1,7 +1,7 @@
--- The invariant of the promise: what holds of chip and disk between any two stores, as long as no erase is half done.
+-- The invariant of the promise: what holds of chip and disk between any two stores, as long as no store is half done.
 use Prim.Native.Nat.{ℕ, zero, suc, _+_, _-_, _*_, _<_}
 use mathlib.Core.Path.{_≡_}
-use mathlib.Core.Bool.{Bool, true, _&&_}
+use mathlib.Core.Bool.{Bool, true, false, _&&_}
 use mathlib.Core.Option.{Option, none, some}
 use mathlib.Core.List.{List, [], _∷_, map}
 use lib.ListN.{getD}
@@ -17,6 +17,10 @@ use Rattle.model.specs.State.{isMarked}
 use Rattle.model.specs.Promise.{Tear, torn}
 use Rattle.model.proofs.Views.{View, SafeAt}
 use Rattle.model.proofs.Queues.{Maps}
+
+-- a tear that spoils no page
+abbrev pub unspoiling : (ℕ → Bool) → Tear
+unspoiling blanked = record { blanked = blanked; spoils = false; data-bytes = []; spare-bytes = [] }
 
 module _ (z : Sizes) where
   -- ---- what a device shows
@@ -74,10 +78,10 @@ module _ (z : Sizes) where
   Along Q d [] = Q d
   Along Q d (s ∷ ss) = Q d × Along Q (apply z d s) ss
 
-  -- Q holds of what a cut in any of the stores leaves, however it tears that one
+  -- Q holds of what a cut in any of the stores leaves, where it spoils no page: of an erase each page is as it was or blank
   abbrev pub Cuts : (Device → Type 0) → Device → List Store → Type 0
   Cuts Q d [] = Unit {0}
-  Cuts Q d (s ∷ ss) = ((t : Tear) → Q (torn z t d (s ∷ ss))) × Cuts Q (apply z d s) ss
+  Cuts Q d (s ∷ ss) = ((blanked : ℕ → Bool) → Q (torn z (unspoiling blanked) d (s ∷ ss))) × Cuts Q (apply z d s) ss
 
   -- every erase of the GC queue, in its order, keeps what is confirmed
   abbrev pub Ready : List ℕ → List ℕ → Device → Type 0

@@ -1,13 +1,15 @@
 -- Buckets that two devices show alike, and the buckets that each store leaves so.
-use Prim.Native.Nat.{ℕ, zero, suc, _-_, _≤_, _<_}
-use mathlib.Core.Path.{_≡_, refl, sym, _∙_}
+use Prim.Native.Nat.{ℕ, zero, suc, _≤_, _<_}
+use mathlib.Core.Path.{_≡_, refl, sym, ap, _∙_}
 use mathlib.Core.Logic.{_≢_}
 use mathlib.Core.List.{List}
 use native.Mathlib.Omega.{arith}
+use Rattle.lists.proofs.Rows.{below-alike}
 use Rattle.model.specs.declared.Sizes.{Sizes}
 use Rattle.model.specs.Sizes.{Device}
 use Rattle.model.specs.Stores.{program, erase, unit, apply, tagOf, bucketBytes}
-use Rattle.model.specs.Image.{pageFits, used, epochOf, backOf, isWrite, isCopy, isDirty, complete, endsLog, logBytes, headTag}
+use Rattle.model.specs.Spare.{spoiled}
+use Rattle.model.specs.Image.{headTag, pageSpoiled, beginsLog, continuesLog, pageFits, isPacked, packed, bucketFits, used, epochOf, backOf, isWrite, isCopy, isDirty, pageProgrammed, complete, endsLog, logBytes}
 use Rattle.model.proofs.Views.{Quiet, same, Kept, alike}
 use Rattle.model.proofs.Safe.{covers, found, givesOf, holdsOf, view}
 use Rattle.model.proofs.Frames.{Lengths, Fits, tag-other-bucket, bytes-other-bucket, tag-kept, bytes-kept, tag-unit, bytes-unit}
@@ -80,13 +82,33 @@ module _ (z : Sizes) where
     isDirty-same = dirty-by d e c heads-same
 
     pub complete-same : complete z e c ≡ complete z d c
-    unfolding complete
-    complete-same = let u = s .tags-same (z .p - 1) (omega arith) in rw (isCopy-same, u)
+    unfolding complete pageProgrammed
+    complete-same = rw (isCopy-same, below-alike (z .p) (pageProgrammed z e c) (pageProgrammed z d c) (λ k h. let u = s .tags-same k h in rw u))
 
-    pub pageFits-same : (k : ℕ) → k < z .p → pageFits z e c k ≡ pageFits z d c k
+    begins-same : (k : ℕ) → k < z .p → beginsLog z e c k ≡ beginsLog z d c k
+    unfolding beginsLog pageSpoiled
+    begins-same k h = rw (s .tags-same k h, below-alike k (pageSpoiled z e c) (pageSpoiled z d c) (λ j q. ap spoiled (s .tags-same j (omega arith))))
+
+    continues-same : (k : ℕ) → k < z .p → continuesLog z e c k ≡ continuesLog z d c k
+    unfolding continuesLog
+    continues-same zero h = refl
+    continues-same (suc k) h = rw (s .tags-same k (omega arith), s .tags-same (suc k) h)
+
+    pageFits-same : (k : ℕ) → k < z .p → pageFits z e c k ≡ pageFits z d c k
     unfolding pageFits
-    pageFits-same zero h = let u = s .tags-same 0 h in rw u
-    pageFits-same (suc k) h = let u = s .tags-same k (omega arith) in let v = s .tags-same (suc k) h in rw (u, v)
+    pageFits-same k h = rw (begins-same k h, continues-same k h, heads-same, s .tags-same k h)
+
+    pub packed-same : packed z e c ≡ packed z d c
+    unfolding packed isPacked
+    packed-same = below-alike (z .p) (isPacked z e c) (isPacked z d c) page
+      where
+        page : (k : ℕ) → k < z .p → isPacked z e c k ≡ isPacked z d c k
+        page zero h = refl
+        page (suc k) h = rw (s .tags-same k (omega arith), s .tags-same (suc k) h)
+
+    pub fits-same : bucketFits z e c ≡ bucketFits z d c
+    unfolding bucketFits
+    fits-same = rw (packed-same, below-alike (z .p) (pageFits z e c) (pageFits z d c) pageFits-same)
 
     -- ---- logs
 

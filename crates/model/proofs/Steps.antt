@@ -35,7 +35,7 @@ use Rattle.model.proofs.Marks.{marks-kept}
 use Rattle.model.proofs.QueuesShown.{reads-kept, writes-kept}
 use Rattle.model.proofs.LedgerKept.{Ledger}
 use Rattle.model.proofs.LedgerErase.{Blanked, blanked-erase, blanked-half, InLedger, ledger-above, Slot, slot-at, entry-stays, found-body}
-use Rattle.model.proofs.BodyAlike.{Alike, chip-alike, ready-alike}
+use Rattle.model.proofs.BodyAlike.{blank-vacant, Alike, chip-alike, ready-alike}
 use Rattle.model.proofs.LedgerEntry.{ledger-below, in-use-at, other-at, other-differs, Entered, entered-program, entered-blanked, entered-named, found-entered, ledger-erased}
 use Rattle.model.proofs.ProgramsLedger.{Shape, shape-of, noted}
 use Rattle.model.proofs.Findable.{Findable}
@@ -127,7 +127,7 @@ module _ (z : Sizes) (B : Limits z) (plain : List ℕ) (s : State) (d : Device) 
       alike c hc = go (ℕ-discrete c g)
         where
           go : Dec (c ≡ g) → Alike z (apply z d (erase g)) e c
-          go (yes q) = inr (λ k hk. rw q (tag-erased z d (lens z plain s d j) g (on-chip z g g-in) k hk), λ k hk. rw q (g-blank k hk))
+          go (yes q) = rw q (inr (blank-vacant z p-pos (apply z d (erase g)) g (tag-erased z d (lens z plain s d j) g (on-chip z g g-in)), blank-vacant z p-pos e g g-blank))
           go (no ne) = inl (same-trans z (same-sym z (same-erase z d (lens z plain s d j) g (on-chip z g g-in) c ne)) (other c hc ne))
 
       gives : (b c i : ℕ) → Dec (c < body z) → Dec (c ≡ g) → Same z d e c ⊎ (givesOf z e c b i ≡ none)
@@ -196,7 +196,7 @@ module _ (z : Sizes) (B : Limits z) (plain : List ℕ) (s : State) (d : Device) 
     handed-over : (l o : ℕ) → InLedger z l → InLedger z o → o ≢ l → EntryRun (entryStore z d o 0 g ∷ erase l ∷ [])
     unfolding EntryRun entryStore applyAll torn
     handed-over l o hl ho ne = (
-      (λ t. inside-found z p-pos plain s d j, (λ t. entry-found _ i (goes _ (blanked-half z e (n .lens) l l-in (t .blanked) (z .p) (omega arith))), tt)),
+      (λ t. inside-found z p-pos plain s d j, (λ t. entry-found _ i (goes _ (blanked-half z e (n .lens) l l-in t (z .p) (omega arith))), tt)),
       i,
       goes _ (blanked-erase z e (n .lens) l l-in),
     )
@@ -232,7 +232,7 @@ module _ (z : Sizes) (B : Limits z) (plain : List ℕ) (s : State) (d : Device) 
     unfolding notedErase EntryRun applyAll torn
     erased-good = (
       cuts-append z (Findable z plain) d (entryStores z d g) (erase g ∷ []) (entry-run .0) (
-        λ t. found-body z e _ g (blanked-half z e (n .lens) g hg (t .blanked) (z .p) (omega arith)) g-in p-pos plain
+        λ t. found-body z e _ g (blanked-half z e (n .lens) g hg t (z .p) (omega arith)) g-in p-pos plain
             (entry-found e i n) (entered-named z B d (s .next) (j .chip) (j .ledger) g g-in (j .next-above g g-in) e i n),
         tt,
       ),

@@ -2,14 +2,16 @@
 use Prim.Native.Nat.{ℕ, _+_, _*_, _/_, _%_, _≤_, _<_}
 use mathlib.Core.Path.{_≡_, refl, sym, ap, _∙_}
 use mathlib.Core.List.{List}
-use mathlib.Core.Bool.{Bool, true, false}
+use mathlib.Core.Logic.{_⊎_, inl, inr}
+use mathlib.Core.Bool.{Bool, true, false, not, _&&_, true≢false}
 use native.Mathlib.Omega.{arith}
 use native.Mathlib.Nat.{div-div-eq-div-mul, div-add-mod', mod-eq-of-lt}
 use lib.ListN.{length, getD}
-use borrow.Author.Tests.{ne-eqb}
+use borrow.Author.Tests.{ne-eqb, eqb-true}
 use Rattle.lists.specs.Lists.{every, same, ff}
+use Rattle.lists.proofs.Tests.{and-false}
 use Rattle.lists.proofs.Sames.{same-equal}
-use Rattle.model.specs.Spare.{two, four, blank, kind, ordinal, pages, epoch, back, offset, extent, zeros, tagBytes}
+use Rattle.model.specs.Spare.{two, four, blank, spoiled, programmed, kind, ordinal, pages, epoch, back, offset, extent, zeros, tagBytes}
 
 digits : (e a b c x y w : ℕ) → a * 256 + x ≡ e → b * 256 + y ≡ a → c * 256 + w ≡ b → ((c * 256 + w) * 256 + y) * 256 + x ≡ e
 digits e a b c x y w p q r = omega arith
@@ -56,10 +58,6 @@ module _ (k o n e b f l : ℕ) where
   unfolding zeros tagBytes every
   zeros-tag = refl
 
-  pub blank-tag : k < 4 → blank (tagBytes k o n e b f l) ≡ false
-  unfolding blank tagBytes same
-  blank-tag h = rw (ne-eqb k 255 (λ q. omega arith))
-
 pub blank-ff : blank (ff 16) ≡ true
 unfolding blank same
 blank-ff = refl
@@ -69,10 +67,60 @@ unfolding blank
 blank-true tag h = same-equal tag (ff 16) h
 
 -- a kind of the page rules is not that of erased bytes
-pub kind-programmed : (tag : List ℕ) → kind tag < 4 → blank tag ≡ false
+pub kind-programmed : (tag : List ℕ) → kind tag < 255 → blank tag ≡ false
 unfolding kind
 kind-programmed tag h = go (blank tag) refl
   where
     go : (t : Bool) → blank tag ≡ t → blank tag ≡ false
     go false e = e
     go true e = let k : getD tag 0 0 ≡ 255 = rw (blank-true tag e) in absurd (omega arith)
+
+-- ---- the three outcomes of a look
+
+pub programmed-real : (tag : List ℕ) → programmed tag ≡ true → (blank tag ≡ false) × (spoiled tag ≡ false)
+unfolding programmed
+programmed-real tag h = go (blank tag) (spoiled tag) refl refl h
+  where
+    go : (b s : Bool) → blank tag ≡ b → spoiled tag ≡ s → not b && not s ≡ true → (blank tag ≡ false) × (spoiled tag ≡ false)
+    go false false p q r = (p, q)
+    go false true p q r = absurd (true≢false (sym r))
+    go true s p q r = absurd (true≢false (sym r))
+
+pub programmed-test : (tag : List ℕ) → blank tag ≡ false → spoiled tag ≡ false → programmed tag ≡ true
+unfolding programmed
+programmed-test tag p q = rw (p, q)
+
+pub blank-unprogrammed : (tag : List ℕ) → blank tag ≡ true → programmed tag ≡ false
+unfolding programmed
+blank-unprogrammed tag h = rw h
+
+pub spoiled-unprogrammed : (tag : List ℕ) → spoiled tag ≡ true → programmed tag ≡ false
+unfolding programmed
+spoiled-unprogrammed tag h = rw h (and-false (not (blank tag)))
+
+-- what is not programmed is blank or spoiled
+pub unprogrammed : (tag : List ℕ) → programmed tag ≡ false → (blank tag ≡ true) ⊎ (spoiled tag ≡ true)
+unfolding programmed
+unprogrammed tag h = go (blank tag) (spoiled tag) refl refl h
+  where
+    go : (b s : Bool) → blank tag ≡ b → spoiled tag ≡ s → not b && not s ≡ false → (blank tag ≡ true) ⊎ (spoiled tag ≡ true)
+    go true s p q r = inl p
+    go false true p q r = inr q
+    go false false p q r = absurd (true≢false r)
+
+-- a page with a kind of the page rules, or an entry, is programmed
+pub kind-real : (tag : List ℕ) → 1 ≤ kind tag → kind tag < 255 → programmed tag ≡ true
+unfolding spoiled
+kind-real tag low high = programmed-test tag (kind-programmed tag high) (ne-eqb (kind tag) 0 (λ q. omega arith))
+
+pub spoiled-ff : spoiled (ff 16) ≡ false
+unfolding spoiled kind
+spoiled-ff = refl
+
+pub programmed-ff : programmed (ff 16) ≡ false
+programmed-ff = blank-unprogrammed (ff 16) blank-ff
+
+-- a spoiled page is not blank
+pub spoiled-real : (tag : List ℕ) → spoiled tag ≡ true → blank tag ≡ false
+unfolding spoiled
+spoiled-real tag h = let k : kind tag ≡ 0 = eqb-true _ _ h in kind-programmed tag (omega arith)

@@ -6,8 +6,9 @@ use Rattle.model.specs.declared.Sizes.{Sizes}
 use Rattle.model.specs.declared.Answer.the-variants.{Done}
 use Rattle.model.specs.Sizes.{Device, limits}
 use Rattle.model.specs.State.{State}
-use Rattle.model.specs.Calls.{Call, formatCall, readCall, writeCall, eraseCall, drainCall, recoverCall, call}
+use Rattle.model.specs.Calls.{Call, formatCall, readCall, writeCall, eraseCall, drainCall, recoverCall, refusal, sizesOf, planOf, call}
 use Rattle.model.specs.Promise.{MayStand, Claim, Always, AlwaysHolds, Promised, NothingLost}
+use Rattle.model.specs.StoresMade.{Rising, ProgramsRise}
 use Rattle.model.specs.Companions.{Trusted, Drained, NeverDistrusted, DrainedDiskIsPlain}
 use Rattle.model.proofs.Invariant.{Inv, Pays}
 use Rattle.model.proofs.Calling.{erase-pays, read-gives}
@@ -17,6 +18,7 @@ use Rattle.model.proofs.Write.{write-pays}
 use Rattle.model.proofs.Drain.{drain-pays, drain-settles}
 use Rattle.model.proofs.Recover.{recover-pays}
 use Rattle.model.proofs.Counts.{counts-left}
+use Rattle.model.proofs.ProgramsRise.{programs-rise}
 use Rattle.model.proofs.Induction.{Each, Owing, promised, throughout, formatted}
 use Rattle.model.proofs.Companions.{trusted, drained}
 
@@ -29,8 +31,12 @@ pays z eraseCall m = erase-pays z
 pays z drainCall m = drain-pays z
 pays z (recoverCall y) m = subst (λ (x : Sizes). Pays z (recoverCall x)) (sym m) (recover-pays z)
 
+rises : (z : Sizes) (k : Call) (s : State) (d : Device) → sizesOf k s ≡ z → refusal k s d ≡ 0 → Rising z d (planOf k s d .stores)
+unfolding ProgramsRise
+rises z k s d e r = subst (λ (x : Sizes). Rising x d (planOf k s d .stores)) e (programs-rise k s d r)
+
 owing : (z : Sizes) (fits : limits z ≡ true) → Owing z fits
-owing z fits = record { pays = pays z; counts = counts-left z; reads = read-gives z fits }
+owing z fits = record { pays = pays z; counts = counts-left z; rises = rises z; reads = read-gives z fits }
 
 -- the invariant holds where the list starts
 start : (z : Sizes) (n : ℕ) (s : State) (d : Device) → call n (formatCall z) s d .answer ≡ Done

@@ -1,4 +1,4 @@
--- The promise whose cuts fall between whole stores, as it read before erases could stop halfway: it follows from the promise with tears.
+-- The promise whose cuts fall between whole stores, as it read before erases could stop halfway and programs spoil their page: it follows from the promise with tears.
 use Prim.Native.Nat.{ℕ, zero, suc}
 use mathlib.Core.Path.{_≡_, refl, subst}
 use mathlib.Core.Bool.{Bool, true, false}
@@ -39,10 +39,10 @@ module _ {S : Type 0} (shows : S → State) (next : S → Outcome → S) (claim 
 unfoldable pub NothingLostWhole : Type 0
 NothingLostWhole = AlwaysWhole (λ (s : State). s) (λ (s : State) (o : Outcome). o .state) Promised
 
--- ---- a tear that blanks no page
+-- ---- a tear that blanks no page and spoils none: both kinds of tear are left out
 
 noTear : Tear
-noTear = record { blanked = λ (k : ℕ). false }
+noTear = record { blanked = λ (k : ℕ). false; spoils = false; data-bytes = []; spare-bytes = [] }
 
 abbrev untornItem : WholeItem → Item
 untornItem x = record { allowance = x .allowance; request = x .request; lent = x .lent; tear = noTear }

@@ -162,7 +162,7 @@ module _ (z : Sizes) (B : Limits z) (plain : List ℕ) (s : State) (d : Device) 
     gc-not-w x t = (gc-below z plain s d j x t, λ q. not-w x (omega arith) (sym q))
 
     rest-blank : (k : ℕ) → z .p - blanks z d w ≤ k → k < z .p → tagOf z d w k ≡ ff 16
-    rest-blank k h hk = blank-end z d w (λ i hi. chip-formed z (j .chip) .pages-fit w i w-in hi) k h hk
+    rest-blank k h hk = blank-end z d w (chip-formed z (j .chip) .buckets-fit w w-in) k h hk
 
   pub append-moves : holds b (s .writes) ≡ true → pagesFor z (length bytes) ≤ blanks z d (cacheOf b (s .writes))
       → Moves z plain (splice plain (diskPlace z b off) bytes) (appendLog z b off bytes s d) d

@@ -1,13 +1,13 @@
 -- Images made by the page rules, what a bucket is, and its complete logs.
 use Prim.Native.Nat.{ℕ, zero, suc, _+_, _-_, _*_}
-use mathlib.Core.Bool.{Bool, not, _&&_, _||_}
+use mathlib.Core.Bool.{Bool, true, false, not, _&&_, _||_}
 use mathlib.Core.List.{List, [], _∷_, map}
 use lib.Dec.{leb, ltb, eqb}
 use Rattle.lists.specs.Lists.{if_then_else_, every, within, below, allBelow, countBelow, keep, distinct, splice, part}
 use Rattle.model.specs.declared.Sizes.{Sizes}
 use Rattle.model.specs.Sizes.{Device, bucketSize, body, pagesFor}
 use Rattle.model.specs.Stores.{tagOf, bucketBytes}
-use Rattle.model.specs.Spare.{blank, writeKind, dirtyKind, kind, ordinal, pages, epoch, back, offset, extent, zeros}
+use Rattle.model.specs.Spare.{blank, spoiled, programmed, writeKind, dirtyKind, kind, ordinal, pages, epoch, back, offset, extent, zeros}
 
 -- "continues the page before it with the same fields and an ordinal one higher", below the count
 unfoldable pub continues : List ℕ → List ℕ → Bool
@@ -18,21 +18,16 @@ continues before tag = every
     ∷ eqb (extent tag) (extent before)
     ∷ ltb (ordinal tag) (pages tag) ∷ [])
 
--- "blank pages come only at the end; non-blank pages share state, epoch and back-end bucket"; "no second ordinal 0" but in Write buckets
-unfoldable pub follows : List ℕ → List ℕ → Bool
-follows before tag = every
-    (not (blank before)
-    ∷ eqb (kind tag) (kind before)
-    ∷ eqb (epoch tag) (epoch before)
-    ∷ eqb (back tag) (back before)
-    ∷ (if eqb (ordinal tag) 0 then eqb (kind tag) writeKind else continues before tag) ∷ [])
+-- "non-blank pages share state, epoch and back-end bucket"; a spoiled one has none
+unfoldable pub shares : List ℕ → List ℕ → Bool
+shares first tag = every (eqb (kind tag) (kind first) ∷ eqb (epoch tag) (epoch first) ∷ eqb (back tag) (back first) ∷ [])
 
 module _ (z : Sizes) where
   -- "Read and Dirty buckets hold offset 0, length P × S"
   unfoldable pub spansBucket : List ℕ → Bool
   spansBucket tag = eqb (offset tag) 0 && eqb (extent tag) (bucketSize z)
 
-  -- the rules for one non-blank page
+  -- the rules for the fields of one programmed page
   unfoldable pub fieldsFit : List ℕ → Bool
   fieldsFit tag = every
       (within 1 3 (kind tag)
@@ -43,21 +38,48 @@ module _ (z : Sizes) where
       ∷ leb (offset tag + extent tag) (bucketSize z)
       ∷ (eqb (kind tag) writeKind || spansBucket tag) ∷ [])
 
-  -- the rules for page k of the cache bucket c; a bucket's first page has ordinal 0
+  -- the first of the first n + 1 pages that is not spoiled, or the last
+  unfoldable pub headTo : Device → (c n : ℕ) → List ℕ
+  headTo d c zero = tagOf z d c 0
+  headTo d c (suc n) = if spoiled (headTo d c n) then tagOf z d c (suc n) else headTo d c n
+
+  -- the spare bytes that speak for their bucket: those of its first programmed page; behind a blank page there is none
+  unfoldable pub headTag : Device → ℕ → List ℕ
+  headTag d c = headTo d c (z .p - 1)
+
+  unfoldable pub pageSpoiled : Device → ℕ → ℕ → Bool
+  pageSpoiled d c k = spoiled (tagOf z d c k)
+
+  -- a log begins with ordinal 0: in any page of a Write bucket, in others with the first programmed one, since these have "no second ordinal 0"
+  unfoldable pub beginsLog : Device → ℕ → ℕ → Bool
+  beginsLog d c k = eqb (ordinal (tagOf z d c k)) 0 && (eqb (kind (tagOf z d c k)) writeKind || allBelow k (pageSpoiled d c))
+
+  -- A spoiled page "belongs to no log and ends the log before it. The next page has ordinal 0."
+  unfoldable pub continuesLog : Device → ℕ → ℕ → Bool
+  continuesLog d c zero = false
+  continuesLog d c (suc k) = programmed (tagOf z d c k) && continues (tagOf z d c k) (tagOf z d c (suc k))
+
+  -- the rules for page k of the cache bucket c; the other bytes of a spoiled one "mean nothing"
   unfoldable pub pageFits : Device → ℕ → ℕ → Bool
-  pageFits d c zero = blank (tagOf z d c zero) || (fieldsFit (tagOf z d c zero) && eqb (ordinal (tagOf z d c zero)) 0)
-  pageFits d c (suc k) = blank (tagOf z d c (suc k)) || (fieldsFit (tagOf z d c (suc k)) && follows (tagOf z d c k) (tagOf z d c (suc k)))
+  pageFits d c k = not (programmed (tagOf z d c k)) || every
+      (fieldsFit (tagOf z d c k)
+      ∷ shares (headTag d c) (tagOf z d c k)
+      ∷ (beginsLog d c k || continuesLog d c k) ∷ [])
+
+  -- "blank pages come only at the end"; a spoiled one "counts as used"
+  unfoldable pub isPacked : Device → ℕ → ℕ → Bool
+  isPacked d c zero = true
+  isPacked d c (suc k) = not (blank (tagOf z d c k)) || blank (tagOf z d c (suc k))
+
+  unfoldable pub packed : Device → ℕ → Bool
+  packed d c = allBelow (z .p) (isPacked d c)
 
   unfoldable pub bucketFits : Device → ℕ → Bool
-  bucketFits d c = allBelow (z .p) (pageFits d c)
-
-  -- the spare bytes that speak for their bucket: those of its first page
-  unfoldable pub headTag : Device → ℕ → List ℕ
-  headTag d c = tagOf z d c 0
+  bucketFits d c = packed d c && allBelow (z .p) (pageFits d c)
 
   -- a bucket with a programmed page
   unfoldable pub used : Device → ℕ → Bool
-  used d c = not (blank (headTag d c))
+  used d c = programmed (headTag d c)
 
   -- its epoch, or 0 if it has none
   unfoldable pub epochOf : Device → ℕ → ℕ
@@ -82,14 +104,17 @@ module _ (z : Sizes) where
   unfoldable pub isDirty : Device → ℕ → Bool
   isDirty d c = eqb (kind (headTag d c)) dirtyKind
 
-  -- "A Read or Dirty bucket is complete when all P pages are programmed."
+  unfoldable pub pageProgrammed : Device → ℕ → ℕ → Bool
+  pageProgrammed d c k = programmed (tagOf z d c k)
+
+  -- "A Read or Dirty bucket is complete when all P pages are programmed." So one with a spoiled page "is incomplete"
   unfoldable pub complete : Device → ℕ → Bool
-  complete d c = isCopy d c && not (blank (tagOf z d c (z .p - 1)))
+  complete d c = isCopy d c && allBelow (z .p) (pageProgrammed d c)
 
   unfoldable pub pageBlank : Device → ℕ → ℕ → Bool
   pageBlank d c k = blank (tagOf z d c k)
 
-  -- the blank pages of a bucket
+  -- the blank pages of a bucket, no spoiled one among them
   unfoldable pub blanks : Device → ℕ → ℕ
   blanks d c = countBelow (z .p) (pageBlank d c)
 
@@ -97,7 +122,7 @@ module _ (z : Sizes) where
 
   -- page k is the last page of a log that has all its pages
   unfoldable pub endsLog : Device → ℕ → ℕ → Bool
-  endsLog d c k = not (blank (tagOf z d c k)) && eqb (ordinal (tagOf z d c k) + 1) (pages (tagOf z d c k))
+  endsLog d c k = programmed (tagOf z d c k) && eqb (ordinal (tagOf z d c k) + 1) (pages (tagOf z d c k))
 
   -- the bytes of the log that ends at page k
   unfoldable pub logBytes : Device → ℕ → ℕ → List ℕ

@@ -2,14 +2,14 @@
 use Prim.Native.Nat.{ℕ, zero, suc, _+_, _*_}
 use mathlib.Core.Path.{_≡_}
 use mathlib.Core.Bool.{Bool, true, false}
-use mathlib.Core.List.{List, [], _∷_}
-use lib.ListN.{length, drop}
+use mathlib.Core.List.{List, [], _∷_, _++_}
+use lib.ListN.{length, take, drop}
 use Rattle.lists.specs.Lists.{if_then_else_, splice, part, ff}
 use Rattle.model.specs.declared.Sizes.{Sizes}
 use Rattle.model.specs.declared.Answer.{Answer}
 use Rattle.model.specs.declared.Answer.the-variants.{Done, Idle, Cut, Refused}
 use Rattle.model.specs.Sizes.{Device, lengths, bucketSize}
-use Rattle.model.specs.Stores.{Store, program, erase, unit, apply}
+use Rattle.model.specs.Stores.{Store, program, erase, unit, apply, pageBytes}
 use Rattle.model.specs.State.{State}
 use Rattle.model.specs.Calls.{Call, formatCall, readCall, writeCall, eraseCall, drainCall, recoverCall, Outcome, isDone, isCut, planOf, call}
 
@@ -20,9 +20,13 @@ pub data Lent : Type 0 where
   whole : Lent
   other : Device → Lent
 
--- what a cut makes of the store that it stops: of an erase, the pages that are blank
+-- what a cut makes of the store that it stops: of an erase, the pages that are blank; of a program, whether the page is spoiled, and then its data
+-- bytes and the spare bytes behind its state
 pub record Tear : Type 0 where
   pub blanked : ℕ → Bool
+  pub spoils : Bool
+  pub data-bytes : List ℕ
+  pub spare-bytes : List ℕ
 
 -- one call of the list, with its allowance, and the tear if it is cut
 pub record Item : Type 0 where
@@ -54,7 +58,7 @@ unfoldable pub leftOf : Lent → (before after : Device) → Device
 leftOf whole d e = e
 leftOf (other part) d e = d
 
--- ---- an erase that stops halfway
+-- ---- a store that stops halfway
 
 -- "blank": data and spare bytes FF, as an erase sets them
 unfoldable pub blankPage : Sizes → Device → (c k : ℕ) → Device
@@ -65,14 +69,19 @@ unfoldable pub halfErased : Sizes → (blanked : ℕ → Bool) → Device → (c
 halfErased z t d c zero = d
 halfErased z t d c (suc k) = if t k then blankPage z (halfErased z t d c k) c k else halfErased z t d c k
 
--- chip and disk with the first of these stores half done; only an erase can be
+-- "that page may be spoiled, its other bytes anything": S data bytes, and 15 spare bytes behind the state
+unfoldable pub spoiledPage : Sizes → Tear → Device → (c k : ℕ) → Device
+spoiledPage z t d c k = apply z d (program c k (pageBytes z (t .data-bytes) 0) (0 ∷ take 15 (t .spare-bytes ++ ff 15)))
+
+-- chip and disk with the first of these stores half done; a disk unit is written or not
 unfoldable pub torn : Sizes → Tear → Device → List Store → Device
 torn z t d [] = d
-torn z t d (program c k bytes tag ∷ ss) = d
+torn z t d (program c k bytes tag ∷ ss) = if t .spoils then spoiledPage z t d c k else d
 torn z t d (erase c ∷ ss) = halfErased z (t .blanked) d c (z .p)
 torn z t d (unit u bytes ∷ ss) = d
 
--- "where a Cut call's next store was an erase, each page of that bucket may be as it was or blank before the next call"
+-- "where a Cut call's next store was an erase, each page of that bucket may be as it was or blank before the next call"; "where a Cut call's next
+-- store was a program, that page may be spoiled"
 unfoldable pub afterCall : Sizes → Item → State → Device → Outcome → Device
 afterCall z x s d o = if isCut (o .answer) then torn z (x .tear) (o .device) (drop (o .stores) (planOf (x .request) s d .stores)) else o .device
 

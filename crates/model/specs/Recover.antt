@@ -8,7 +8,8 @@ use Rattle.lists.specs.Lists.{if_then_else_, below, allBelow, head, empty, any,
 use Rattle.model.specs.declared.Sizes.{Sizes}
 use Rattle.model.specs.declared.Entry.{Entry}
 use Rattle.model.specs.Sizes.{Device, body}
-use Rattle.model.specs.Stores.{Store, erase, applyAll, bucketBytes, diskBytes, unitStores}
+use Rattle.model.specs.Stores.{Store, erase, applyAll, tagOf, bucketBytes, diskBytes, unitStores}
+use Rattle.model.specs.Spare.{blank}
 use Rattle.model.specs.Image.{used, epochOf, backOf, isWrite, isCopy, isDirty, complete, blanks, merge}
 use Rattle.model.specs.Ledger.{named}
 use Rattle.model.specs.State.{started, entry, topEpoch}
@@ -74,7 +75,11 @@ module _ (z : Sizes) (d : Device) where
 
   -- "Blank buckets are free"
   unfoldable pub isFree : ℕ → Bool
-  isFree c = not (used z d c)
+  isFree c = blank (tagOf z d c 0)
+
+  -- "A bucket with a spoiled page and no programmed one"
+  unfoldable pub isSpent : ℕ → Bool
+  isSpent c = not (isFree c) && not (used z d c)
 
   -- a Dirty bucket of b, unsaved once it is dropped
   unfoldable pub isUnsavedOf : ℕ → ℕ → Bool
@@ -125,13 +130,13 @@ module _ (z : Sizes) (d : Device) where
   unfoldable pub rescueStores : ℕ → List Store
   rescueStores b = unitStores z b (rescued b)
 
-  -- "These disk writes go in rising back-end number." "GC: superseded and incomplete copies, then dropped copies, then dropped Write buckets, each
-  -- by epoch. Blank buckets are free, rising. Kept copies by epoch, newest most recent; the write queue by epoch; priority is blank pages"
+  -- "These disk writes go in rising back-end number." A bucket without a programmed page "goes first to GC, by bucket number". "GC: superseded and
+  -- incomplete copies, then dropped copies, then dropped Write buckets, each by epoch. Blank buckets are free, rising. Kept copies by epoch, newest most recent; the write queue by epoch; priority is blank pages"
   unfoldable pub rebuilt : (next : ℕ) → Plan
   rebuilt n = record {
     stores = concatMap rescueStores (keep isRescued (below (z .b)));
     state = started z (map keptRead (byEpoch keptCopies)) (map keptWrite (byEpoch keptWrites))
-        (byEpoch (buckets isOldCopy) ++ (byEpoch (buckets isDroppedCopy) ++ byEpoch (buckets isDroppedWrite))) (buckets isFree) n;
+        (buckets isSpent ++ (byEpoch (buckets isOldCopy) ++ (byEpoch (buckets isDroppedCopy) ++ byEpoch (buckets isDroppedWrite)))) (buckets isFree) n;
   }
 
 -- ---- the erase ledger

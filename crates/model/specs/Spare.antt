@@ -1,6 +1,6 @@
 -- What a page's 16 spare bytes say.
 use Prim.Native.Nat.{ℕ, _+_, _-_, _*_, _/_, _%_}
-use mathlib.Core.Bool.{Bool}
+use mathlib.Core.Bool.{Bool, not, _&&_}
 use mathlib.Core.List.{List, [], _∷_}
 use lib.ListN.{getD}
 use lib.Dec.{eqb}
@@ -33,6 +33,14 @@ ledgerKind = 4
 
 unfoldable pub kind : List ℕ → ℕ
 kind tag = getD tag 0 0
+
+-- "A cut in a program may leave the page spoiled, which the chip reports as spare state 0."
+unfoldable pub spoiled : List ℕ → Bool
+spoiled tag = eqb (kind tag) 0
+
+-- "Looking at a page's spare then has three outcomes: blank, programmed, spoiled."
+unfoldable pub programmed : List ℕ → Bool
+programmed tag = not (blank tag) && not (spoiled tag)
 
 -- "1 ordinal of the page in its log; 2 pages in the log"
 unfoldable pub ordinal : List ℕ → ℕ

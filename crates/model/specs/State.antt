@@ -8,7 +8,7 @@ use Rattle.lists.specs.Lists.{if_then_else_, every, times, allBelow, maxBelow, 
 use Rattle.model.specs.declared.Sizes.{Sizes}
 use Rattle.model.specs.declared.Entry.{Entry}
 use Rattle.model.specs.Sizes.{Device, body}
-use Rattle.model.specs.Spare.{blank, epoch}
+use Rattle.model.specs.Spare.{programmed, epoch}
 use Rattle.model.specs.Image.{complete, isWrite, backOf, blanks, epochOf}
 use Rattle.model.specs.Ledger.{ledgerTag, oneInUse}
 
@@ -149,7 +149,7 @@ markFits reads e = not (e .marked) || holds (e .back) reads
 
 -- the epoch of the entry on page i of the ledger, or 0
 unfoldable pub entryEpoch : Sizes → Device → ℕ → ℕ
-entryEpoch z d i = if blank (ledgerTag z d i) then 0 else epoch (ledgerTag z d i)
+entryEpoch z d i = if programmed (ledgerTag z d i) then epoch (ledgerTag z d i) else 0
 
 -- the largest epoch of a bucket on the chip, or 0; "Entries count towards the next epoch"
 unfoldable pub topEpoch : Sizes → Device → ℕ

@@ -17,12 +17,13 @@ use Rattle.lists.proofs.Parts.{getD-part, length-part-fits, getD-splice-in, get
 use Rattle.lists.proofs.Arrays.{done-more, all-at}
 use Rattle.model.specs.declared.Sizes.{Sizes}
 use Rattle.model.specs.Sizes.{Device, bucketSize, flashSize, body}
-use Rattle.model.specs.Spare.{blank}
+use Rattle.model.specs.Spare.{programmed}
 use Rattle.model.specs.Stores.{tagOf}
 use Rattle.model.specs.Image.{endsLog, mergeTo, merge, blanks}
 use Rattle.model.specs.State.{isBelow}
 use Rattle.model.specs.Recover.{mergeAll}
 use Rattle.model.proofs.Limits.{on-chip}
+use Rattle.model.proofs.Tags.{programmed-real}
 use Rattle.spare.specs.Fields.{fields, seen}
 use Rattle.spare.specs.declared.Fields.{Fields}
 use Rattle.spare.specs.declared.Seen.the-variants.{Programmed}
@@ -31,7 +32,7 @@ use Rattle.overlay.specs.declared.Extent.{Extent}
 use Rattle.overlay.specs.declared.Run.{Run}
 use Rattle.overlay.specs.Window.{chip, Tagged, Readable, LogPlace, logPart}
 use Rattle.overlay.specs.Runs.{Lays, EndsBy, Runs}
-use Rattle.overlay.proofs.Logs.{in-flash, merged-length, log-place, log-laid, ends-last, log-lacking, merged-programmed}
+use Rattle.overlay.proofs.Logs.{in-flash, merged-length, log-place, log-laid, ends-last, log-lacking, merged-used}
 
 -- ---- one page
 
@@ -53,11 +54,7 @@ module _ {z : Sizes} {spare : List ℕ} (tagged : Tagged z spare) {c : ℕ} (buc
 
     says : seen (tagOf z (spareOnly spare) c k) ≡ Programmed said
     unfolding seen endsLog
-    says = go (blank (tagOf z (spareOnly spare) c k)) refl e
-      where
-        go : (t : Bool) → blank (tagOf z (spareOnly spare) c k) ≡ t → endsLog z (spareOnly spare) c k ≡ true → seen (tagOf z (spareOnly spare) c k) ≡ Programmed said
-        go true q h = absurd (true≢false (sym (rw q at h)))
-        go false q h = rw q
+    says = let real = programmed-real (tagOf z (spareOnly spare) c k) (and-left (programmed (tagOf z (spareOnly spare) c k)) _ e) in rw (real .0, real .1)
 
     last : said .ordinal + 1 ≡ said .pages
     last = ends-last blank-flash bucket page says e
@@ -179,10 +176,10 @@ pub above-end : {z : Sizes} {spare : List ℕ} {c n x : ℕ} (start : ℕ) → E
 above-end start ends flash base r s i l m = ends .rest flash base r s i m
 
 -- no log ends in the blank pages
-pub ends-programmed : {z : Sizes} {spare : List ℕ} {c n : ℕ} (x : ℕ) → c < body z → n ≡ z .p - blanks z (spareOnly spare) c → EndsBy z spare c x n
-ends-programmed {z} {spare} {c} {n} x bucket e = record {
+pub ends-used : {z : Sizes} {spare : List ℕ} {c n : ℕ} (x : ℕ) → c < body z → n ≡ z .p - blanks z (spareOnly spare) c → EndsBy z spare c x n
+ends-used {z} {spare} {c} {n} x bucket e = record {
   most = omega (arith, e);
-  rest = λ flash base r s i m. ap (λ (w : List ℕ). getD w i 0) (sym (ap (mergeTo z (chip flash spare) c base) e ∙ merged-programmed r bucket base));
+  rest = λ flash base r s i m. ap (λ (w : List ℕ). getD w i 0) (sym (ap (mergeTo z (chip flash spare) c base) e ∙ merged-used r bucket base));
 }
 
 -- what holds before x holds before less
@@ -296,4 +293,4 @@ ends-at {z} {spare} {newest} {x} list below last j h = go (true-or-false (eqb j 
     go : (eqb j (length list - 1) ≡ true) ⊎ (eqb j (length list - 1) ≡ false)
         → EndsBy z spare (getD list j 0) x (if eqb j (length list - 1) then newest else z .p - blanks z (spareOnly spare) (getD list j 0))
     go (inl e) = rw e (rw (← eqb-true j (length list - 1) e) at (last (omega arith)))
-    go (inr e) = rw e (ends-programmed x (listed (body z) list below j h) refl)
+    go (inr e) = rw e (ends-used x (listed (body z) list below j h) refl)

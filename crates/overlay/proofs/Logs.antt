@@ -2,7 +2,7 @@
 use Rattle.model.proofs.Limits.{on-chip}
 use mathlib.Core.Path.{_≡_, sym, ap, _∙_}
 use mathlib.Core.Bool.{true, false}
-use mathlib.Core.List.{List}
+use mathlib.Core.List.{List, []}
 use Prim.Native.Nat.{ℕ, zero, suc, _+_, _-_, _*_, _≤_, _<_}
 use native.Mathlib.Nat.{mul-le-mul-right, le-refl, add-zero}
 use native.Mathlib.Numerals.{add-one}
@@ -14,16 +14,17 @@ use Rattle.lists.specs.Lists.{splice}
 use Rattle.lists.proofs.Windows.{part-part}
 use Rattle.model.specs.declared.Sizes.{Sizes}
 use Rattle.model.specs.Sizes.{bucketSize, body, flashSize, spareSize, diskSize}
-use Rattle.model.specs.Spare.{blank, ordinal, pages, offset, extent}
+use Rattle.model.specs.Spare.{programmed, ordinal, pages, offset, extent}
 use Rattle.model.specs.Stores.{tagOf, bucketBytes}
-use Rattle.model.specs.Image.{pageFits, endsLog, logBytes, mergeTo, blanks}
+use Rattle.model.specs.Image.{bucketFits, endsLog, logBytes, mergeTo, blanks}
 use Rattle.model.proofs.Formed.{Formed, formed-of, page-fields, blank-from, log-pages, log-inside}
+use Rattle.model.proofs.Tags.{blank-unprogrammed}
 use Rattle.model.proofs.MergeBytes.{length-mergeTo}
 use Rattle.geometry.specs.Geometry.{device}
 use Rattle.spare.specs.Fields.{fields, seen}
 use Rattle.spare.specs.declared.Fields.{Fields}
-use Rattle.spare.specs.declared.Seen.the-variants.{Blank, Programmed}
-use Rattle.spare.proofs.Looked.{seen-blank, seen-programmed}
+use Rattle.spare.specs.declared.Seen.the-variants.{Programmed}
+use Rattle.spare.proofs.Looked.{seen-programmed}
 use Rattle.image.specs.Chip.{spareOnly}
 use Rattle.rules.proofs.SameSpare.{same-body-fits}
 use Rattle.overlay.specs.Window.{chip, Readable, LogPlace, logPart}
@@ -38,8 +39,8 @@ module _ {z : Sizes} {flash spare : List ℕ} (readable : Readable z flash spare
   formed : (disk : List ℕ) → Formed z (device flash spare disk)
   formed disk = formed-of z (device flash spare disk) (sym (same-body-fits z (device flash spare disk)) ∙ readable .well-formed)
 
-  fit : (k : ℕ) → k < z .p → pageFits z (chip flash spare) c k ≡ true
-  fit k page = formed _ .pages-fit c k bucket page
+  fit : bucketFits z (chip flash spare) c ≡ true
+  fit = formed [] .buckets-fit c bucket
 
   pub merged-length : (base : List ℕ) → length base ≡ bucketSize z → (n : ℕ) → n ≤ z .p → length (mergeTo z (chip flash spare) c base n) ≡ bucketSize z
   unfolding flashSize spareSize diskSize
@@ -52,7 +53,7 @@ module _ {z : Sizes} {flash spare : List ℕ} (readable : Readable z flash spare
 
   -- page k says the fields f
   module _ {k : ℕ} (page : k < z .p) {f : Fields} (says : seen (tagOf z (spareOnly spare) c k) ≡ Programmed f) where
-    said : (blank (tagOf z (chip flash spare) c k) ≡ false) × (fields (tagOf z (chip flash spare) c k) ≡ f)
+    said : (programmed (tagOf z (chip flash spare) c k) ≡ true) × (fields (tagOf z (chip flash spare) c k) ≡ f)
     unfolding tagOf
     said = seen-programmed (tagOf z (chip flash spare) c k) f says
 
@@ -111,18 +112,19 @@ module _ {z : Sizes} {flash spare : List ℕ} (readable : Readable z flash spare
   unfolding mergeTo endsLog tagOf
   log-lacking k lacking base = rw (add-one k, lacking)
 
-  pub nothing-laid : (k : ℕ) → seen (tagOf z (spareOnly spare) c k) ≡ Blank → (base : List ℕ) → mergeTo z (chip flash spare) c base (k + 1) ≡ mergeTo z (chip flash spare) c base k
-  unfolding mergeTo endsLog tagOf
-  nothing-laid k says base = rw (add-one k, seen-blank _ says)
+  -- as for a page that is not programmed
+  pub nothing-ends : (k : ℕ) → programmed (tagOf z (spareOnly spare) c k) ≡ false → endsLog z (spareOnly spare) c k ≡ false
+  unfolding endsLog
+  nothing-ends k e = rw e
 
   blank-ends : (k : ℕ) → z .p - blanks z (spareOnly spare) c ≤ k → k < z .p → endsLog z (spareOnly spare) c k ≡ false
-  unfolding endsLog
   blank-ends k h page =
-      rw (blank-from z (spareOnly spare) c (λ j q. formed-of z (spareOnly spare) (readable .well-formed) .pages-fit c j bucket q) k page ∙ le-leb (z .p - blanks z (spareOnly spare) c) k h)
+      let fits = formed-of z (spareOnly spare) (readable .well-formed) .buckets-fit c bucket in
+      nothing-ends k (blank-unprogrammed (tagOf z (spareOnly spare) c k) (blank-from z (spareOnly spare) c fits k page ∙ le-leb (z .p - blanks z (spareOnly spare) c) k h))
 
   -- nor by the blank pages at the end
-  pub merged-programmed : (base : List ℕ) → mergeTo z (chip flash spare) c base (z .p - blanks z (spareOnly spare) c) ≡ mergeTo z (chip flash spare) c base (z .p)
-  merged-programmed base =
+  pub merged-used : (base : List ℕ) → mergeTo z (chip flash spare) c base (z .p - blanks z (spareOnly spare) c) ≡ mergeTo z (chip flash spare) c base (z .p)
+  merged-used base =
       let last : (z .p - blanks z (spareOnly spare) c) + (z .p - (z .p - blanks z (spareOnly spare) c)) ≡ z .p = omega arith in
       sym (ap (mergeTo z (chip flash spare) c base) (sym last) ∙ go (z .p - (z .p - blanks z (spareOnly spare) c)) (omega arith))
     where

@@ -132,16 +132,16 @@ fn live_pages(z: Sizes, c: usize, pages: usize, x: usize, spare: &[u8]) -> usize
     n
 }
 
-// How many pages of the listed bucket j are programmed.
-fn programmed_at(z: Sizes, list: &[u8], j: usize, spare: &[u8]) -> usize
+// How many pages of the listed bucket j are not blank.
+fn pages_used_at(z: Sizes, list: &[u8], j: usize, spare: &[u8]) -> usize
     requires { ⌜ Tagged z (now spare) ⌝ }
     requires { ⌜ (all (isBelow (body z)) (now list) ≡ true) × (j < length (now list)) ⌝ }
     ensures { λ r. ⌜ r ≡ z .p - blanks z (spareOnly (now (spare .entry))) (getD (now (list .entry)) j 0) ⌝ }
 {
-    image::programmed(z, list[j] as usize, spare)
+    image::pages_used(z, list[j] as usize, spare)
 }
 
-// How many pages of the newest listed bucket are programmed; most lists have no other.
+// How many pages of the newest listed bucket are not blank; most lists have no other.
 fn newest_pages(z: Sizes, list: &[u8], spare: &[u8]) -> usize
     requires { ⌜ Tagged z (now spare) ⌝ }
     requires { ⌜ all (isBelow (body z)) (now list) ≡ true ⌝ }
@@ -151,7 +151,7 @@ fn newest_pages(z: Sizes, list: &[u8], spare: &[u8]) -> usize
     if n == 0 {
         return 0;
     }
-    programmed_at(z, list, n - 1, spare)
+    pages_used_at(z, list, n - 1, spare)
 }
 
 // Those of them without the last that lay nothing before x.
@@ -168,7 +168,7 @@ fn newest_live(z: Sizes, list: &[u8], pages: usize, x: usize, spare: &[u8]) -> u
     live_pages(z, list[n - 1] as usize, pages, x, spare)
 }
 
-// The pages to be looked at of the listed bucket j: those programmed, and of the newest as many of them as are left.
+// The pages to be looked at of the listed bucket j: those not blank, and of the newest as many of them as are left.
 fn pages_at(z: Sizes, list: &[u8], j: usize, newest: usize, spare: &[u8]) -> usize
     requires { ⌜ Tagged z (now spare) ⌝ }
     requires { ⌜ (all (isBelow (body z)) (now list) ≡ true) × (j < length (now list)) ⌝ }
@@ -177,7 +177,7 @@ fn pages_at(z: Sizes, list: &[u8], j: usize, newest: usize, spare: &[u8]) -> usi
     if j == list.len() - 1 {
         return newest;
     }
-    programmed_at(z, list, j, spare)
+    pages_used_at(z, list, j, spare)
 }
 
 // The run up to x, of the logs of all listed buckets, the newest last.

@@ -10,7 +10,7 @@ use Rattle.lists.proofs.Parts.{getD-part}
 use Rattle.model.specs.declared.Sizes.{Sizes}
 use Rattle.model.specs.Sizes.{body, pageIndex}
 use Rattle.model.specs.Stores.{tagOf}
-use Rattle.model.specs.Spare.{two, four, blank, epoch}
+use Rattle.model.specs.Spare.{two, four, programmed, epoch}
 use Rattle.model.specs.Image.{used, epochOf}
 use Rattle.model.specs.Ledger.{ledgerTag}
 use Rattle.model.specs.State.{entryEpoch, topEpoch}
@@ -31,16 +31,16 @@ module _ (z : Sizes) (some : 1 ≤ z .p) (spare : List ℕ) (bytes : (i : ℕ) �
   epoch-fits c = go (used z (spareOnly spare) c) refl
     where
       go : (t : Bool) → used z (spareOnly spare) c ≡ t → epochOf z (spareOnly spare) c ≤ 4294967295
-      go true e = let h = head-page z some (spareOnly spare) c e in rw (epoch-used z (spareOnly spare) c e, h .is) (tag-epoch c (h .page))
+      go true e = let h = head-page z some (spareOnly spare) c in rw (epoch-used z (spareOnly spare) c e, h .is) (tag-epoch c (h .page))
       go false e = rw (epoch-unused z (spareOnly spare) c e) (omega arith)
 
   entry-fits : (i : ℕ) → entryEpoch z (spareOnly spare) i ≤ 4294967295
   unfolding entryEpoch ledgerTag
-  entry-fits i = go (blank (tagOf z (spareOnly spare) (body z) i))
+  entry-fits i = go (programmed (tagOf z (spareOnly spare) (body z) i))
     where
-      go : (t : Bool) → (if t then 0 else epoch (tagOf z (spareOnly spare) (body z) i)) ≤ 4294967295
-      go true = omega arith
-      go false = tag-epoch (body z) i
+      go : (t : Bool) → (if t then epoch (tagOf z (spareOnly spare) (body z) i) else 0) ≤ 4294967295
+      go true = tag-epoch (body z) i
+      go false = omega arith
 
   pub top-fits : topEpoch z (spareOnly spare) ≤ 4294967295
   top-fits = top-least z (spareOnly spare) 4294967295 (λ c h. epoch-fits c) (λ i h. entry-fits i)

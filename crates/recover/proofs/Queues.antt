@@ -16,17 +16,16 @@ use Rattle.lists.proofs.Orders.{kept-below}
 use Rattle.lists.proofs.Filters.{keep-both, keep-agree, keep-all, member-kept}
 use Rattle.model.specs.declared.Sizes.{Sizes}
 use Rattle.model.specs.Sizes.{Device, body}
-use Rattle.model.specs.Stores.{tagOf}
-use Rattle.model.specs.Image.{headTag, used, epochOf, backOf, isWrite, isCopy, complete, pageBlank, blanks}
+use Rattle.model.specs.Image.{used, backOf, isWrite}
 use Rattle.model.specs.State.{isBelow, queued}
-use Rattle.model.specs.Recover.{buckets, byEpoch, isNewer, amongNewest, newest, isWriteOf, isCopyOf, givesWay, isChosen, isNoOther, isOnly, keptWrites, isDroppedWrite, flushed, isRemaining, keptCopies, isDroppedCopy, isOldCopy, isFree, keptRead, keptWrite, rebuilt}
+use Rattle.model.specs.Recover.{buckets, byEpoch, amongNewest, newest, isChosen, isOnly, keptWrites, isDroppedWrite, isRemaining, keptCopies, isDroppedCopy, isOldCopy, isSpent, keptRead, keptWrite, rebuilt}
 use Rattle.model.proofs.Limits.{Limits}
 use Rattle.model.proofs.Formed.{Formed}
 use Rattle.model.proofs.BucketKinds.{complete-copy, copy-used, write-used}
 use Rattle.model.proofs.RecoverChoice.{chosen-of, old-is, dropped-copy, dropped-write}
 use Rattle.model.proofs.Inside.{places-queued}
 use Rattle.model.proofs.RecoverQueues.{once-recovered, few-reads-recovered, few-writes-recovered}
-use Rattle.image.specs.Chip.{Chip, spareOnly}
+use Rattle.image.specs.Chip.{Chip}
 use Rattle.rescue.specs.Sources.{Recoverable}
 use Rattle.classes.specs.Columns.{nowhere, inOrder, named, column, isNamed}
 use Rattle.classes.proofs.Columns.{below-nowhere, is-named}
@@ -169,6 +168,9 @@ module _ (z : Sizes) (d : Device) where
     pub column-fits : length order ≤ length (last ++ drop (length order) room)
     column-fits = lent-fits (length order) room e (column-length t o refl)
 
+  abbrev pub spent : List ℕ
+  spent = buckets z d (isSpent z d)
+
   abbrev pub oldCopies : List ℕ
   oldCopies = byEpoch z d (buckets z d (isOldCopy z d))
 
@@ -182,17 +184,13 @@ module _ (z : Sizes) (d : Device) where
   total : length (queued (rebuilt z d 0 .state)) ≡ body z
   total = length-once (body z) (queued (rebuilt z d 0 .state)) (λ c. places-queued (rebuilt z d 0 .state) c ∙ once-recovered z d 0 c)
 
-  pub gc-fits : length oldCopies + (length droppedCopies + length droppedWrites) ≤ body z
+  pub gc-fits : length spent + (length oldCopies + (length droppedCopies + length droppedWrites)) ≤ body z
   unfolding queued rebuilt
   gc-fits = let t = total in omega (arith, simp length-append at t)
 
-  pub gc-is : oldCopies ++ (droppedCopies ++ droppedWrites) ≡ retired z d
+  pub gc-is : spent ++ (oldCopies ++ (droppedCopies ++ droppedWrites)) ≡ retired z d
   unfolding retired
   gc-is = refl
-
-  pub same-state : (next : ℕ) → rebuilt z (spareOnly (d .spare)) next .state ≡ rebuilt z d next .state
-  unfolding rebuilt keptRead keptWrite isFree isOldCopy isDroppedCopy keptCopies isRemaining flushed isDroppedWrite keptWrites isOnly isNoOther isChosen givesWay isCopyOf isWriteOf newest amongNewest isNewer byEpoch buckets blanks pageBlank complete isCopy isWrite backOf epochOf used headTag tagOf
-  same-state next = refl
 
 module _ (z : Sizes) (d : Device) (limits : Limits z) (formed : Formed z d) where
   pub picked-old : picked (column z d (isOldCopy z d)) (inOrder z d) ≡ oldCopies z d

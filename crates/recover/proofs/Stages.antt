@@ -1,6 +1,6 @@
 -- Recovery's plan, carried out in two stages: its erases, and the units on the chip that they leave.
 use Prim.Native.Nat.{ℕ, _+_, _≤_}
-use mathlib.Core.Path.{_≡_, refl, sym, ap, _∙_}
+use mathlib.Core.Path.{_≡_, refl, sym, ap, fun-ext, _∙_}
 use mathlib.Core.Bool.{true, false}
 use mathlib.Core.List.{List, [], map}
 use Rattle.lists.proofs.Tests.{every-at}
@@ -9,7 +9,7 @@ use Rattle.model.specs.declared.Answer.{Answer}
 use Rattle.model.specs.declared.Answer.the-variants.{Done}
 use Rattle.model.specs.Sizes.{Device}
 use Rattle.model.specs.Stores.{Store, erase, tagOf, applyAll}
-use Rattle.model.specs.Image.{headTag, used, epochOf, bodyFits}
+use Rattle.model.specs.Image.{bodyFits}
 use Rattle.model.specs.Ledger.{ledgerTag, entriesFit, recoverable}
 use Rattle.model.specs.State.{State, entryEpoch, topEpoch}
 use Rattle.model.specs.Steps.{Plan}
@@ -18,6 +18,7 @@ use Rattle.model.specs.Calls.{recoverCall, sizesOf, doneAnswer, lentBuffer, rea
 use Rattle.model.proofs.Limits.{Limits}
 use Rattle.model.proofs.Frames.{Lengths}
 use Rattle.image.specs.Chip.{spareOnly}
+use Rattle.image.proofs.SameSpare.{same-epoch}
 use Rattle.rules.proofs.SameSpare.{same-body-fits}
 use Rattle.meter.specs.declared.Meter.{Meter}
 use Rattle.meter.specs.Run.{Run, fresh, runAll}
@@ -25,17 +26,17 @@ use Rattle.meter.proofs.Runs.{run-append, run-left, run-stopped, run-made}
 use Rattle.state.specs.declared.State.{State as Struct}
 use Rattle.outcome.specs.Handed.{handedBack, handed, cutShort, finished}
 use Rattle.outcome.proofs.Ends.{handed-quiet}
+use Rattle.classes.proofs.SameSpare.{same-state}
 use Rattle.rescue.specs.Sources.{rescues}
 use Rattle.recover.specs.declared.Begun.{Begun}
 use Rattle.recover.specs.Stages.{rebuilding}
-use Rattle.recover.proofs.Queues.{same-state}
 use Rattle.recover.proofs.Swept.{swept-fits}
 
 module _ (z : Sizes) (d : Device) where
   -- the spare bytes alone say which epochs stand on the chip
   pub same-top : topEpoch z (spareOnly (d .spare)) ≡ topEpoch z d
-  unfolding topEpoch entryEpoch ledgerTag epochOf used headTag tagOf
-  same-top = refl
+  unfolding topEpoch entryEpoch ledgerTag tagOf
+  same-top = rw (fun-ext (same-epoch z d))
 
   pub entries-found : recoverable z d ≡ true → entriesFit z d ≡ true
   unfolding recoverable

@@ -6,7 +6,6 @@ use mathlib.Core.Bool.{true, false, true≢false}
 use mathlib.Core.List.{List, [], _∷_}
 use native.Mathlib.Omega.{arith}
 use native.Mathlib.Decide.{decLt}
-use borrow.Author.Tests.{not-true}
 use Rattle.lists.specs.Lists.{below, keep, times}
 use Rattle.lists.proofs.Tests.{true-or-false, every-at}
 use Rattle.lists.proofs.Rows.{all-below}
@@ -15,21 +14,19 @@ use Rattle.lists.proofs.Counts.{times-append, times-cons, times-other, times-on
 use Rattle.lists.proofs.Orders.{kept-below, below-kept}
 use Rattle.model.specs.declared.Sizes.{Sizes}
 use Rattle.model.specs.Sizes.{Device, body}
-use Rattle.model.specs.Stores.{tagOf}
-use Rattle.model.specs.Spare.{blank, epoch}
-use Rattle.model.specs.Image.{pageFits, bucketFits, bodyFits, headTag, used, epochOf}
-use Rattle.model.specs.Ledger.{named, firstTag, foundFits, occupied, firstEpoch, recoverable}
+use Rattle.model.specs.Spare.{epoch}
+use Rattle.model.specs.Image.{bucketFits, bodyFits, used, epochOf}
+use Rattle.model.specs.Ledger.{named, foundFits, occupied, firstEpoch, recoverable}
 use Rattle.model.specs.Recover.{swept}
 use Rattle.model.proofs.Limits.{Limits, on-chip}
 use Rattle.model.proofs.Frames.{Lengths}
-use Rattle.model.proofs.Tags.{blank-ff}
-use Rattle.model.proofs.Heads.{Blank}
-use Rattle.model.proofs.Show.{Same, used-same, epochOf-same, pageFits-same}
+use Rattle.model.proofs.Heads.{Blank, head-programmed}
+use Rattle.model.proofs.Show.{Same, used-same, epochOf-same, fits-same}
 use Rattle.model.proofs.Buckets.{blank-unused}
 use Rattle.model.proofs.Formed.{formed-test, epoch-used}
 use Rattle.model.proofs.FormedKept.{blank-fits}
 use Rattle.model.proofs.QueuesErased.{gone, gone-same, gone-blank}
-use Rattle.holes.proofs.First.{none-yet, first-at}
+use Rattle.holes.proofs.First.{used-first}
 
 module _ (z : Sizes) (B : Limits z) (d : Device) where
   -- ---- the buckets that are erased
@@ -59,22 +56,15 @@ module _ (z : Sizes) (B : Limits z) (d : Device) where
       go (yes t) = absurd (true≢false (sym (kept-below (named z d) c (body z) t .0) ∙ n))
       go (no t) = omega (arith, in-swept c, times-other c (body z) (λ e. omega arith), times-other c (body z + 1) (λ e. omega arith))
 
-  -- ---- a used bucket's first page is the first programmed one
-
-  used-first : (c : ℕ) → used z d c ≡ true → blank (tagOf z d c 0) ≡ false
-  unfolding used headTag
-  used-first c u = not-true (blank (tagOf z d c 0)) u
-
-  first-tag : (c : ℕ) → used z d c ≡ true → firstTag z d c ≡ tagOf z d c 0
-  first-tag c u = first-at z d c 0 (B .p-low) (none-yet z d c) (used-first c u) .1
+  -- ---- a used bucket's head is its first programmed page
 
   used-occupied : (c : ℕ) → used z d c ≡ true → occupied z d c ≡ true
   unfolding occupied
-  used-occupied c u = rw (first-tag c u, used-first c u)
+  used-occupied c u = rw (used-first z d c (B .p-low) u) (head-programmed z d c u)
 
   used-epoch : (c : ℕ) → used z d c ≡ true → firstEpoch z d c ≡ epochOf z d c
-  unfolding firstEpoch headTag
-  used-epoch c u = ap epoch (first-tag c u) ∙ sym (epoch-used z d c u)
+  unfolding firstEpoch
+  used-epoch c u = ap epoch (used-first z d c (B .p-low) u) ∙ sym (epoch-used z d c u)
 
   -- ---- what is left
 
@@ -82,9 +72,9 @@ module _ (z : Sizes) (B : Limits z) (d : Device) where
     abbrev left : Device
     left = gone z d (swept z d)
 
-    pages-found : (c : ℕ) → c < body z → named z d c ≡ false → (k : ℕ) → k < z .p → pageFits z d c k ≡ true
-    unfolding recoverable foundFits bucketFits
-    pages-found c hc n = all-below (z .p) (pageFits z d c) (rw n at (all-below (body z) (foundFits z d) (every-at _ h 0) c hc))
+    fits-found : (c : ℕ) → c < body z → named z d c ≡ false → bucketFits z d c ≡ true
+    unfolding recoverable foundFits
+    fits-found c hc n = rw n at (all-below (body z) (foundFits z d) (every-at _ h 0) c hc)
 
     found-differ : (a b : ℕ) → a < body z → b < body z → used z d a ≡ true → used z d b ≡ true → epochOf z d a ≡ epochOf z d b → a ≡ b
     unfolding recoverable
@@ -104,16 +94,16 @@ module _ (z : Sizes) (B : Limits z) (d : Device) where
         go (inl n) = absurd (true≢false (sym u ∙ blank-unused z left c (B .p-low) (goes c hc n)))
         go (inr n) = stays c hc n
 
-    page-left : (c k : ℕ) → c < body z → k < z .p → pageFits z left c k ≡ true
-    page-left c k hc hk = go (true-or-false (named z d c))
+    fits-left : (c : ℕ) → c < body z → bucketFits z left c ≡ true
+    fits-left c hc = go (true-or-false (named z d c))
       where
-        go : (named z d c ≡ true) ⊎ (named z d c ≡ false) → pageFits z left c k ≡ true
-        go (inl n) = blank-fits z (B .p-low) left c k (ap blank (goes c hc n k hk) ∙ blank-ff)
-        go (inr n) = pageFits-same z (B .p-low) d left c (stays c hc n) k hk ∙ pages-found c hc n k hk
+        go : (named z d c ≡ true) ⊎ (named z d c ≡ false) → bucketFits z left c ≡ true
+        go (inl n) = blank-fits z (B .p-low) left c (goes c hc n)
+        go (inr n) = fits-same z (B .p-low) d left c (stays c hc n) ∙ fits-found c hc n
 
     pub swept-fits : bodyFits z left ≡ true
     swept-fits = formed-test z left (record {
-      pages-fit = page-left;
+      buckets-fit = fits-left;
       epochs-differ = λ a b ha hb ua ub e.
           let sa = used-stays a ha ua in
           let sb = used-stays b hb ub in

@@ -7,7 +7,7 @@ use Rattle.lists.specs.Lists.{if_then_else_}
 use Rattle.model.specs.declared.Sizes.{Sizes}
 use Rattle.model.specs.declared.Entry.{Entry}
 use Rattle.model.specs.Sizes.{Device}
-use Rattle.model.specs.Recover.{buckets, byEpoch, isOldCopy, isDroppedCopy, isDroppedWrite, keptRead, keptWrite}
+use Rattle.model.specs.Recover.{buckets, byEpoch, isOldCopy, isDroppedCopy, isDroppedWrite, isSpent, keptRead, keptWrite}
 use Rattle.classes.specs.Columns.{isNamed}
 
 -- a bucket's entry in the write queue, where blank pages are counted, or in the read queue
@@ -31,4 +31,5 @@ differing (b ∷ m) (e ∷ n) (c ∷ l) = if eqb b e then differing m n l else c
 -- the recovered GC queue
 unfoldable pub retired : Sizes → Device → List ℕ
 retired z d =
-    byEpoch z d (buckets z d (isOldCopy z d)) ++ (byEpoch z d (buckets z d (isDroppedCopy z d)) ++ byEpoch z d (buckets z d (isDroppedWrite z d)))
+    buckets z d (isSpent z d)
+    ++ (byEpoch z d (buckets z d (isOldCopy z d)) ++ (byEpoch z d (buckets z d (isDroppedCopy z d)) ++ byEpoch z d (buckets z d (isDroppedWrite z d))))

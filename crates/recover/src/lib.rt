@@ -1,4 +1,5 @@
 // Recover: the ledger's erases; then the state from the chip's spare area alone, and the units of what the queues have no place for.
+use classes::Kind;
 use fifo::Fifo;
 use meter::Meter;
 use model::Answer;
@@ -100,7 +101,7 @@ fn gather(order: &[u8], column: &[u16], list: Fifo) -> Fifo
     Fifo { items, len: n }
 }
 
-// Superseded and incomplete copies, dropped copies, dropped Write buckets, each by epoch.
+// Spent buckets by number; superseded and incomplete copies, dropped copies, dropped Write buckets, each by epoch.
 fn retired(
     z: Sizes,
     order: &[u8],
@@ -119,7 +120,8 @@ fn retired(
     let n = order.len();
     let mut old = classes::blank_column();
     classes::old_column(z, order, copies, spare, &mut old[..n]);
-    let first = gather(order, &old[..n], Fifo::empty());
+    let spent = classes::buckets(z, Kind::Spent, spare);
+    let first = gather(order, &old[..n], spent);
     let second = gather(order, dropped_copies, first);
     gather(order, dropped_writes, second)
 }
@@ -143,7 +145,7 @@ fn recovered(
     let reads = kept_queue(z, order, copies, dropped_copies, false, spare);
     let queued = kept_queue(z, order, writes, dropped_writes, true, spare);
     let gc = retired(z, order, dropped_writes, copies, dropped_copies, spare);
-    let free = classes::buckets(z, false, spare);
+    let free = classes::buckets(z, Kind::Free, spare);
     State {
         sizes: z,
         running: true,

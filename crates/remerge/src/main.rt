@@ -1,12 +1,13 @@
-// The old merge and the new one on the same buckets. Chips of several sizes are made by the engine's calls and by erases that cuts stop halfway;
-// after each call the Write buckets of every back-end bucket are merged by either, over the disk's bytes and over a cache bucket's, in several
-// windows.
+// The old merge and the new one on the same buckets. Chips of several sizes are made by the engine's calls, by erases that cuts stop halfway and by
+// pages that they spoil; after each call the Write buckets of every back-end bucket are merged by either, over the disk's bytes and over a cache
+// bucket's, in several windows.
 mod calls;
 mod compare;
 mod listed;
 mod old;
 mod random;
 mod sizes;
+mod spoil;
 mod tally;
 mod tear;
 mod windows;
@@ -19,7 +20,7 @@ ghost use Rattle.model.proofs.Limits.{Limits};
 // Calls on each chip.
 const CALLS: usize = 300;
 
-// The calls; after a cut one an erase is torn, and after each comes the comparison.
+// The calls; after a cut one an erase is torn or a page spoiled, and after each comes the comparison.
 fn compare_chips(z: Sizes, flash: &mut [u8], spare: &mut [u8], disk: &mut [u8]) -> Tally
     requires { ⌜ Limits z ⌝ }
 {

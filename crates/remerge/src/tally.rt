@@ -13,6 +13,8 @@ pub struct Tally {
     pub abandoned: usize,
     // erases that stopped halfway
     pub torn: usize,
+    // pages that a cut spoiled
+    pub spoiled: usize,
     pub bytes: usize,
     pub differing: usize,
 }
@@ -34,6 +36,7 @@ impl Tally {
             several: 0,
             abandoned: 0,
             torn: 0,
+            spoiled: 0,
             bytes: 0,
             differing: 0,
         }
@@ -47,6 +50,7 @@ impl Tally {
             several: sum(self.several, other.several),
             abandoned: sum(self.abandoned, other.abandoned),
             torn: sum(self.torn, other.torn),
+            spoiled: sum(self.spoiled, other.spoiled),
             bytes: sum(self.bytes, other.bytes),
             differing: sum(self.differing, other.differing),
         }
@@ -77,6 +81,7 @@ pub fn compared(buckets: usize, one: &[u8], other: &[u8]) -> Tally
         several: as_number(1 < buckets),
         abandoned: 0,
         torn: 0,
+        spoiled: 0,
         bytes: one.len(),
         differing: differing(one, other),
     }
@@ -92,6 +97,12 @@ pub fn seen(abandoned: usize) -> Tally {
 pub fn torn(erases: usize) -> Tally {
     let mut tally = Tally::empty();
     tally.torn = erases;
+    tally
+}
+
+pub fn spoiled(pages: usize) -> Tally {
+    let mut tally = Tally::empty();
+    tally.spoiled = pages;
     tally
 }
 
@@ -114,6 +125,7 @@ pub fn print(tally: Tally) {
     print_number(b", several ", tally.several);
     print_number(b"; abandoned logs ", tally.abandoned);
     print_number(b"; torn erases ", tally.torn);
+    print_number(b"; spoiled pages ", tally.spoiled);
     print_number(b"; bytes ", tally.bytes);
     print_number(b", differing ", tally.differing);
     io::write_all(1, b"\n");

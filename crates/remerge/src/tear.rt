@@ -1,5 +1,6 @@
-// Erases that stop halfway: after a cut, the bucket whose erase came next loses some of its pages.
+// What a cut leaves of the store that came next: an erase stopped halfway took some pages of its bucket, or the page of a program is spoiled.
 use crate::random;
+use crate::spoil;
 use crate::tally;
 use crate::tally::Tally;
 use model::Sizes;
@@ -61,7 +62,19 @@ fn tear_named(z: Sizes, seed: u32, flash: &mut [u8], spare: &mut [u8]) -> usize
     count
 }
 
-// What a cut leaves of the erase that came next. While both ledger buckets are in use that may be one of theirs, and nothing is torn.
+// The erase that came next is torn; where none did, the page of a program may be spoiled.
+fn damage(z: Sizes, seed: u32, flash: &mut [u8], spare: &mut [u8]) -> Tally
+    requires { ⌜ Chip z (now spare) ⌝ }
+    requires { ⌜ length (now flash) ≡ flashSize z ⌝ }
+{
+    let torn = tear_named(z, seed, flash, spare);
+    if torn != 0 {
+        return tally::torn(torn);
+    }
+    tally::spoiled(spoil::spoil_some(z, seed, flash, spare))
+}
+
+// While both ledger buckets are in use, what came next may be an erase of one of theirs, and nothing is done.
 pub fn after_call(
     cut: bool,
     z: Sizes,
@@ -79,5 +92,5 @@ pub fn after_call(
     if !ledger::one_in_use(z, spare) {
         return Tally::empty();
     }
-    tally::torn(tear_named(z, seed, flash, spare))
+    damage(z, seed, flash, spare)
 }

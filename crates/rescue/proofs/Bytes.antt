@@ -1,4 +1,4 @@
--- The rescued bytes: what lies under the logs, and that the spare area alone says which they are.
+-- The rescued bytes: what lies under the logs.
 use Prim.Native.Nat.{ℕ, _*_, _<_}
 use mathlib.Core.Path.{_≡_, refl, sym, ap, _∙_}
 use mathlib.Core.Bool.{Bool, true, false}
@@ -11,9 +11,9 @@ use Rattle.lists.proofs.Counts.{mem-times, head-in}
 use Rattle.lists.proofs.Orders.{times-sort}
 use Rattle.model.specs.declared.Sizes.{Sizes}
 use Rattle.model.specs.Sizes.{Device, bucketSize, diskSize, body}
-use Rattle.model.specs.Stores.{tagOf, bucketBytes, diskBytes}
-use Rattle.model.specs.Image.{headTag, used, epochOf, backOf, isWrite, isCopy, isDirty, complete}
-use Rattle.model.specs.Recover.{buckets, byEpoch, isNewer, amongNewest, newest, isWriteOf, isCopyOf, givesWay, isChosen, isChosenOf, chosen, isNoOther, isOnly, mergeAll, recovered, keptWrites, isDroppedWrite, flushed, isRemaining, keptCopies, isDroppedCopy, isUnsavedOf, unsaved, isRescued, rescued, rescueStores}
+use Rattle.model.specs.Stores.{bucketBytes, diskBytes}
+use Rattle.model.specs.Image.{epochOf, isWrite}
+use Rattle.model.specs.Recover.{buckets, byEpoch, isWriteOf, isChosen, chosen, mergeAll, recovered, isDroppedWrite, flushed, unsaved, isRescued, rescued, rescueStores}
 use Rattle.model.proofs.Limits.{on-chip}
 use Rattle.model.proofs.Frames.{Lengths, length-bucket, length-disk}
 use Rattle.model.proofs.Formed.{Formed, formed-of}
@@ -26,30 +26,10 @@ use Rattle.rules.proofs.SameSpare.{same-body-fits}
 use Rattle.overlay.specs.Window.{Readable, chip}
 use Rattle.overlay.proofs.SameChip.{same-merge-all}
 use Rattle.classes.specs.Columns.{nowhere, inOrder, column}
+use Rattle.classes.proofs.SameSpare.{same-logs, same-chosen, same-flushed}
 use Rattle.rescue.specs.Sources.{Recoverable}
 use Rattle.rescue.specs.Beside.{beside}
 use Rattle.rescue.proofs.Standing.{flushed-stands, logs-beside, copy-beside}
-
--- ---- what the spare area alone says
-
-module _ (z : Sizes) (d : Device) where
-  same-chosen : (b : ℕ) → chosen z (spareOnly (d .spare)) b ≡ chosen z d b
-  unfolding chosen buckets isChosenOf isChosen givesWay isCopyOf isNewer complete isCopy used epochOf backOf headTag tagOf
-  same-chosen b = refl
-
-  same-flushed : (b : ℕ) → flushed z (spareOnly (d .spare)) b ≡ flushed z d b
-  unfolding flushed buckets isDroppedWrite keptWrites newest amongNewest isNewer isOnly isNoOther isWriteOf isWrite used epochOf backOf headTag tagOf
-  same-flushed b = refl
-
-  same-logs : (b : ℕ) → byEpoch z (spareOnly (d .spare)) (buckets z (spareOnly (d .spare)) (isWriteOf z (spareOnly (d .spare)) b)) ≡ byEpoch z d (buckets z d (isWriteOf z d b))
-  unfolding byEpoch buckets isWriteOf isWrite used epochOf backOf headTag tagOf
-  same-logs b = refl
-
-  pub same-rescued : (b : ℕ) → isRescued z (spareOnly (d .spare)) b ≡ isRescued z d b
-  unfolding isRescued unsaved isUnsavedOf isDroppedCopy keptCopies isRemaining isDirty flushed buckets isDroppedWrite keptWrites newest amongNewest isNewer isOnly isNoOther isWriteOf isWrite isChosen givesWay isCopyOf complete isCopy used epochOf backOf headTag tagOf
-  same-rescued b = refl
-
--- ---- the bytes
 
 -- what lies under the logs of b: its copy, or the disk's bytes
 abbrev pub baseBytes : Sizes → Device → ℕ → List ℕ

@@ -23,9 +23,10 @@ use Rattle.order.specs.Order.{nextOf}
 use Rattle.lists.proofs.Filters.{take-more}
 use Rattle.order.proofs.Next.{next, next-passes, next-kept}
 use Rattle.classes.specs.Columns.{column}
+use Rattle.classes.proofs.SameSpare.{same-rescued}
 use Rattle.rescue.specs.Beside.{isUnwritten}
 use Rattle.rescue.proofs.Standing.{rescued-stands}
-use Rattle.rescue.proofs.Bytes.{same-rescued, rescued-size, stores-same}
+use Rattle.rescue.proofs.Bytes.{rescued-size, stores-same}
 
 -- from each rescued one to the next, by the column of what is to be written
 module _ {z : Sizes} {flash spare : List ℕ} (readable : Readable z flash spare) (disk : List ℕ) {unwritten : List ℕ}

@@ -1,5 +1,6 @@
 // A look ahead: what one store more of a recovery would leave, on a copy of chip and disk.
-use crate::tear;
+use crate::pages;
+use crate::pages::PAGES;
 use model::Sizes;
 use state::State;
 ghost use Prim.Native.Nat.{_≤_};
@@ -31,12 +32,12 @@ fn recovered_blanks(
     flash: &mut [u8],
     spare: &mut [u8],
     disk: &mut [u8],
-) -> [bool; 16] {
+) -> [bool; PAGES] {
     recover::recover(s, z, allowance, flash, spare, disk);
-    tear::blanks(z, spare)
+    pages::blanks(spare)
 }
 
-// The blank cache buckets after a recovery with its allowance.
+// The blank pages after a recovery with its allowance.
 pub fn blanks_after(
     s: State,
     z: Sizes,
@@ -44,7 +45,7 @@ pub fn blanks_after(
     flash: &[u8],
     spare: &[u8],
     disk: &[u8],
-) -> [bool; 16] {
+) -> [bool; PAGES] {
     let mut data = copied(flash);
     let mut tags = copied(spare);
     let mut units = copied(disk);

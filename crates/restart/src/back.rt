@@ -1,5 +1,6 @@
-// The restart: recovery cut after every number of stores, its erases stopped halfway, then every back-end bucket read.
+// The restart: recovery cut after every number of stores, its erases stopped halfway, then every back-end bucket read; a write, and all that again.
 use crate::ahead;
+use crate::pages;
 use crate::plain;
 use crate::row;
 use crate::run;
@@ -9,19 +10,22 @@ use model::Sizes;
 use state::State;
 ghost use Prim.Native.Nat.{_≤_, _<_};
 
-// The stores of the whole recovery, the erases that stopped halfway, and whether every byte read is that of the plain disk.
+// The stores of the whole recovery, the erases that stopped halfway, the pages that were spoiled, and whether every byte read is that of the
+// plain disk.
 pub struct Back {
     pub stores: usize,
     pub torn: usize,
+    pub spoiled: usize,
     pub kept: bool,
 }
 
 impl Back {
-    // The same, and some erases more; two digits of their number are printed.
-    pub fn and_torn(self, torn: usize) -> Back {
+    // The same, and some erases and pages more; two digits of their numbers are printed.
+    pub fn and_damaged(self, torn: usize, spoiled: usize) -> Back {
         Back {
             stores: self.stores,
             torn: self.torn % 100 + torn % 100,
+            spoiled: self.spoiled % 100 + spoiled % 100,
             kept: self.kept,
         }
     }
@@ -31,6 +35,7 @@ impl Back {
         Back {
             stores: self.stores,
             torn: self.torn % 100 + other.torn % 100,
+            spoiled: self.spoiled % 100 + other.spoiled % 100,
             kept: self.kept & other.kept,
         }
     }
@@ -65,8 +70,8 @@ fn recover_once(
     let o = recover::recover(s, z, allowance, flash, spare, disk);
     let state = o.state;
     let reply = o.answer;
-    let c = tear::erased(tear::blanks(z, spare), after);
-    let torn = tear::tear(z, c, set, flash, spare);
+    let blanked = pages::first_blank(after, pages::blanks(spare));
+    let torn = tear::tear(z, blanked, set, flash, spare);
     Recovered {
         state,
         stores: o.stores,
@@ -163,14 +168,15 @@ fn buckets(z: Sizes) -> usize
     if z.b < 4 { z.b } else { 4 }
 }
 
-fn kept(
+// The whole of every back-end bucket.
+fn read_all(
     s: State,
     z: Sizes,
     plain: [u8; 256],
     flash: &mut [u8],
     spare: &mut [u8],
     disk: &mut [u8],
-) -> bool {
+) -> Read {
     let end = buckets(z);
     let mut state = s;
     let mut same = true;
@@ -181,11 +187,25 @@ fn kept(
         same = same & one.same;
         b += 1;
     }
-    same
+    Read { state, same }
+}
+
+// The write after the restart: where the first cut write spoiled the page that it would have appended, this one goes behind it.
+const NEXT: [u8; 6] = [b'W', 255, 0, 0, 1, 0];
+
+// Whether every byte read is that of the plain disk after one more write and a recovery.
+fn kept_again(run: Run, z: Sizes, flash: &mut [u8], spare: &mut [u8], disk: &mut [u8]) -> bool {
+    let next = run::make_row(run, z, NEXT, 98, flash, spare, disk);
+    let s = next.state;
+    let o = recover::recover(s, z, 255, flash, spare, disk);
+    let state = o.state;
+    let plain = next.plain;
+    let read = read_all(state, z, plain, flash, spare, disk);
+    read.same
 }
 
 pub fn restart(
-    run: Run,
+    mut run: Run,
     z: Sizes,
     set: usize,
     flash: &mut [u8],
@@ -196,10 +216,14 @@ pub fn restart(
     let after = recover_whole(s, z, set, flash, spare, disk);
     let state = after.state;
     let plain = run.plain;
-    let kept = kept(state, z, plain, flash, spare, disk);
+    let read = read_all(state, z, plain, flash, spare, disk);
+    let state = read.state;
+    run.state = state;
+    let again = kept_again(run, z, flash, spare, disk);
     Back {
         stores: after.stores,
         torn: after.torn,
-        kept,
+        spoiled: 0,
+        kept: read.same & again,
     }
 }

@@ -1,8 +1,13 @@
-// Calls cut after no store, after one, and so on until they are whole, each on the mix anew; an erase that came next stopped halfway.
+// Calls cut after no store, after one, and so on until they are whole, each on the mix anew; an erase that came next stopped halfway, or the page
+// of a program that came next spoiled.
 use crate::back;
 use crate::back::Back;
+use crate::pages;
+use crate::pages::PAGES;
+use crate::pages::Page;
 use crate::run;
 use crate::run::Run;
+use crate::spoil;
 use crate::tear;
 use model::Sizes;
 ghost use Prim.Native.Nat.{_≤_};
@@ -11,6 +16,13 @@ ghost use Prim.Native.Nat.{_≤_};
 struct Way {
     run: Run,
     back: Back,
+}
+
+// The store that came next: the first page that it blanked and the page that it programmed, PAGES where it did not, and what it programmed there.
+struct Next {
+    blanked: usize,
+    programmed: usize,
+    program: Page,
 }
 
 // Writes that append, evict their own bucket or a victim, by the chip; reads that hit and that evict; an erase step; a drain. The allowance is
@@ -33,8 +45,8 @@ fn ones(n: usize) -> u8 {
     b'0' + (n % 10) as u8
 }
 
-// The call, its allowance, its answer and stores; the stores of the recovery; the erases that stopped halfway, each set of pages counted; whether
-// each confirmed write is there in every case.
+// The call, its allowance, its answer and stores; the stores of the recovery; the erases that stopped halfway, each set of pages counted; the
+// pages that were spoiled, each way counted; whether each confirmed write is there in every case.
 fn print(operation: u8, allowance: usize, run: Run, back: Back) {
     let line = [
         operation,
@@ -50,6 +62,9 @@ fn print(operation: u8, allowance: usize, run: Run, back: Back) {
         b' ',
         tens(back.torn),
         ones(back.torn),
+        b' ',
+        tens(back.spoiled),
+        ones(back.spoiled),
         b' ',
     ];
     io::write_all(1, &line);
@@ -74,57 +89,86 @@ fn cut_run(
     run::make_row(start, z, call, 99, flash, spare, disk)
 }
 
-// The cache buckets that are blank after the call with its allowance.
-fn blanks_after(
+// What one store more changes.
+fn next_store(
     z: Sizes,
     call: [u8; 6],
     allowance: usize,
     flash: &mut [u8],
     spare: &mut [u8],
     disk: &mut [u8],
-) -> [bool; 16] {
+) -> Next
+    requires { ⌜ allowance ≤ 32 ⌝ }
+    ensures { λ r. ⌜ (r .blanked ≤ 48) × (r .programmed ≤ 48) ⌝ }
+{
     cut_run(z, call, allowance, flash, spare, disk);
-    tear::blanks(z, spare)
+    let before = pages::blanks(spare);
+    cut_run(z, call, allowance + 1, flash, spare, disk);
+    let after = pages::blanks(spare);
+    let programmed = pages::first_blank(before, after);
+    let program = pages::page_at(z, programmed, flash, spare);
+    Next {
+        blanked: pages::first_blank(after, before),
+        programmed,
+        program,
+    }
 }
 
-// The cut and the restart with one set of pages. The buckets that are blank after one store more tell of an erase.
+// The cut, what it left of the next store, and the restart.
 fn one_way(
     z: Sizes,
     call: [u8; 6],
     allowance: usize,
-    after: [bool; 16],
-    set: usize,
+    next: Next,
+    way: usize,
     flash: &mut [u8],
     spare: &mut [u8],
     disk: &mut [u8],
-) -> Way {
+) -> Way
+    requires { ⌜ (next .blanked ≤ 48) × (next .programmed ≤ 48) ⌝ }
+{
     let run = cut_run(z, call, allowance, flash, spare, disk);
-    let c = tear::erased(tear::blanks(z, spare), after);
-    let torn = tear::tear(z, c, set, flash, spare);
-    let back = back::restart(run, z, set, flash, spare, disk);
-    let back = back.and_torn(torn);
+    let torn = tear::tear(z, next.blanked, way, flash, spare);
+    let program = next.program;
+    let c = allowance % 16;
+    let spoiled = spoil::spoil(z, next.programmed, way, program, c, flash, spare);
+    let back = back::restart(run, z, way, flash, spare, disk);
+    let back = back.and_damaged(torn, spoiled);
     Way { run, back }
 }
 
-// The cut and the restart with each set of pages.
+// Each set of a bucket's pages is tried, and each way to spoil a page.
+fn ways(z: Sizes, programmed: usize) -> usize
+    ensures { λ r. ⌜ r ≤ 16 ⌝ }
+{
+    let sets = tear::sets(z);
+    if (programmed < PAGES) & (sets < spoil::WAYS) {
+        spoil::WAYS
+    } else {
+        sets
+    }
+}
+
 fn all_ways(
     z: Sizes,
     call: [u8; 6],
     allowance: usize,
-    after: [bool; 16],
+    next: Next,
     flash: &mut [u8],
     spare: &mut [u8],
     disk: &mut [u8],
-) -> Way {
-    let first = one_way(z, call, allowance, after, 0, flash, spare, disk);
+) -> Way
+    requires { ⌜ (next .blanked ≤ 48) × (next .programmed ≤ 48) ⌝ }
+{
+    let first = one_way(z, call, allowance, next, 0, flash, spare, disk);
     let run = first.run;
     let mut back = first.back;
-    let sets = tear::sets(z);
-    let mut set = 1;
-    while set < sets {
-        let next = one_way(z, call, allowance, after, set, flash, spare, disk);
-        back = back.and(next.back);
-        set += 1;
+    let end = ways(z, next.programmed);
+    let mut way = 1;
+    while way < end {
+        let other = one_way(z, call, allowance, next, way, flash, spare, disk);
+        back = back.and(other.back);
+        way += 1;
     }
     Way { run, back }
 }
@@ -147,8 +191,8 @@ fn cut_at(
 ) -> bool
     requires { ⌜ allowance ≤ 32 ⌝ }
 {
-    let after = blanks_after(z, call, allowance + 1, flash, spare, disk);
-    let way = all_ways(z, call, allowance, after, flash, spare, disk);
+    let next = next_store(z, call, allowance, flash, spare, disk);
+    let way = all_ways(z, call, allowance, next, flash, spare, disk);
     told(call[0], allowance, way)
 }
 

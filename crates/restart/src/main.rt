@@ -1,11 +1,13 @@
-// Calls cut after every number of stores, then recoveries cut after every number of stores, erases stopped halfway in both, on chips of several
-// sizes; and a length that no workbench line can say.
+// Calls cut after every number of stores, the page that came next spoiled, then recoveries cut after every number of stores, erases stopped
+// halfway in both, on chips of several sizes; and a length that no workbench line can say.
 mod ahead;
 mod back;
 mod cuts;
+mod pages;
 mod plain;
 mod row;
 mod run;
+mod spoil;
 mod tear;
 
 use model::Sizes;

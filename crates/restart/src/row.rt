@@ -15,7 +15,7 @@ pub fn data_of(i: usize) -> [u8; 64] {
     bytes
 }
 
-pub fn at_most_64(n: usize) -> usize
+fn at_most_64(n: usize) -> usize
     ensures { λ r. ⌜ r ≤ 64 ⌝ }
 {
     if n < 64 { n } else { 64 }

@@ -1,66 +1,64 @@
 -- A bucket that fits: pages that fit, then blank ones. Several buckets with no kind at once.
-use Prim.Native.Nat.{ℕ, _+_, _-_, _*_, _≤_, _<_}
+use Prim.Native.Nat.{ℕ, suc, _+_, _-_, _*_, _≤_, _<_}
 use mathlib.Core.Path.{_≡_, refl, sym, ap, _∙_}
-use mathlib.Core.Logic.{⊎-elim}
-use mathlib.Core.Bool.{Bool, true, false, _&&_, _||_, or-false}
+use mathlib.Core.Bool.{Bool, true, false, _&&_, true≢false}
 use mathlib.Core.List.{List}
 use native.Mathlib.Omega.{arith}
+use native.Mathlib.Decide.{decLt}
 use native.Mathlib.Nat.{add-zero, sub-zero, add-mul, mul-le-mul-right}
 use lib.ListN.{length}
-use lib.Dec.{ltb}
-use borrow.Author.Tests.{ltb-true, ltb-false}
+use borrow.Author.Tests.{eq-eqb}
 use Rattle.lists.specs.Lists.{allBelow, part}
-use Rattle.lists.proofs.Tests.{true-or-false, same-truth, and-true, and-false, or-left, or-second}
+use Rattle.lists.proofs.Tests.{same-truth, and-true, and-false}
 use Rattle.lists.proofs.Rows.{all-below, below-all, below-alike, below-append, below-rows}
 use Rattle.model.specs.declared.Sizes.{Sizes}
 use Rattle.model.specs.Sizes.{spareSize}
 use Rattle.model.specs.Spare.{blank, kind}
 use Rattle.model.specs.Stores.{tagOf}
-use Rattle.model.specs.Image.{headTag, pageFits, bucketFits}
-use Rattle.model.proofs.Formed.{blank-after}
+use Rattle.model.specs.Image.{pageFits, bucketFits}
+use Rattle.model.proofs.Tags.{programmed-real, blank-unprogrammed}
+use Rattle.model.proofs.Rules.{Ruled, ruled-test, unruled-test, fields-real}
+use Rattle.model.proofs.Formed.{fits-test, blank-after}
 use Rattle.spare.specs.Fields.{blankFrom}
 use Rattle.image.specs.Chip.{Chip, spareOnly}
+use Rattle.image.proofs.First.{kind-blank}
 use Rattle.image.proofs.Place.{page-from}
-use Rattle.rules.specs.Pages.{fitsAt, Stops, fitsFrom}
-use Rattle.rules.proofs.Page.{either-page, no-kind}
+use Rattle.rules.specs.Pages.{Fitting, fitsFrom}
+use Rattle.rules.proofs.Later.{fitting-ruled}
 
 module _ (z : Sizes) (spare : List ℕ) where
-  pub bucket-split : (c n : ℕ) → Stops z (spareOnly spare) c n → bucketFits z (spareOnly spare) c ≡ allBelow (z .p - n) (blankFrom spare (c * z .p + n))
-  unfolding bucketFits
-  bucket-split c n stops = same-truth _ _ split join
+  -- pages that fit as most do, and then blank ones
+  pub fitting-fits : (c n : ℕ) → Fitting z (spareOnly spare) c n → allBelow (z .p - n) (blankFrom spare (c * z .p + n)) ≡ true → bucketFits z (spareOnly spare) c ≡ true
+  fitting-fits c n fit rest = fits-test z (spareOnly spare) c (λ k q e. next k q e (decLt k n)) (λ k q. fits k q (decLt k n))
     where
-      first-blank : pageFits z (spareOnly spare) c n ≡ true → n < z .p → blank (tagOf z (spareOnly spare) c n) ≡ true
-      first-blank h g =
-          sym (or-false (blank (tagOf z (spareOnly spare) c n)))
-          ∙ (ap (λ (t : Bool). blank (tagOf z (spareOnly spare) c n) || t) (sym (stops .1 g)) ∙ (sym (either-page z (spareOnly spare) c n) ∙ h))
+      here : (k : ℕ) → k < n → Ruled z (spareOnly spare) c k
+      here = fitting-ruled z (spareOnly spare) c n (fit .1)
 
-      split : allBelow (z .p) (pageFits z (spareOnly spare) c) ≡ true → allBelow (z .p - n) (blankFrom spare (c * z .p + n)) ≡ true
-      split h =
-          let fit = all-below (z .p) (pageFits z (spareOnly spare) c) h in
-          below-all (z .p - n) (blankFrom spare (c * z .p + n)) (λ j q.
-          page-from z spare c n j ∙ blank-after z (spareOnly spare) c fit n (n + j) (omega arith) (omega arith) (first-blank (fit n (omega arith)) (omega arith)))
-
-      from : allBelow (z .p - n) (blankFrom spare (c * z .p + n)) ≡ true → (k : ℕ) → n ≤ k → k < z .p → blank (tagOf z (spareOnly spare) c k) ≡ true
-      from h k g q =
+      from : (k : ℕ) → n ≤ k → k < z .p → blank (tagOf z (spareOnly spare) c k) ≡ true
+      from k g q =
           let at : n + (k - n) ≡ k = omega arith in
           ap (λ (i : ℕ). blank (tagOf z (spareOnly spare) c i)) (sym at)
-          ∙ (sym (page-from z spare c n (k - n)) ∙ all-below (z .p - n) (blankFrom spare (c * z .p + n)) h (k - n) (omega arith))
+          ∙ (sym (page-from z spare c n (k - n)) ∙ all-below (z .p - n) (blankFrom spare (c * z .p + n)) rest (k - n) (omega arith))
 
-      join : allBelow (z .p - n) (blankFrom spare (c * z .p + n)) ≡ true → allBelow (z .p) (pageFits z (spareOnly spare) c) ≡ true
-      join h = below-all (z .p) (pageFits z (spareOnly spare) c) (λ k q. either-page z (spareOnly spare) c k ∙ ⊎-elim
-          (λ e. or-second (blank (tagOf z (spareOnly spare) c k)) _ (all-below n (fitsAt z (spareOnly spare) c) (stops .0 .1) k (ltb-true k n e)))
-          (λ e. or-left _ (fitsAt z (spareOnly spare) c k) (from h k (ltb-false k n e) q))
-          (true-or-false (ltb k n)))
+      next : (k : ℕ) → suc k < z .p → blank (tagOf z (spareOnly spare) c k) ≡ true → Dec (k < n) → blank (tagOf z (spareOnly spare) c (suc k)) ≡ true
+      next k q e (yes g) = absurd (true≢false (sym e ∙ programmed-real (tagOf z (spareOnly spare) c k) (fields-real z (tagOf z (spareOnly spare) c k) (here k g .fields)) .0))
+      next k q e (no g) = from (suc k) (omega arith) q
 
-  -- a bucket with no kind fits if its pages are blank
-  no-kind-fits : (c : ℕ) → kind (headTag z (spareOnly spare) c) ≡ 255 → bucketFits z (spareOnly spare) c ≡ allBelow (z .p) (blankFrom spare (c * z .p))
-  unfolding headTag allBelow
-  no-kind-fits c e =
-      bucket-split c 0 ((omega arith, refl), λ h. no-kind z (spareOnly spare) c 0 e)
-      ∙ rw (sub-zero, add-zero)
+      fits : (k : ℕ) → k < z .p → Dec (k < n) → pageFits z (spareOnly spare) c k ≡ true
+      fits k q (yes g) = ruled-test z (spareOnly spare) c k (here k g)
+      fits k q (no g) = unruled-test z (spareOnly spare) c k (blank-unprogrammed (tagOf z (spareOnly spare) c k) (from k (omega arith) q))
+
+  -- a bucket whose first page has no kind fits if its pages are blank
+  no-kind-fits : (c : ℕ) → kind (tagOf z (spareOnly spare) c 0) ≡ 255 → bucketFits z (spareOnly spare) c ≡ allBelow (z .p) (blankFrom spare (c * z .p))
+  unfolding allBelow
+  no-kind-fits c e = same-truth _ _
+      (λ h. below-all (z .p) (blankFrom spare (c * z .p)) (λ k q.
+      let first : blank (tagOf z (spareOnly spare) c 0) ≡ true = kind-blank z (spareOnly spare) c 0 h (omega arith) ∙ eq-eqb _ 255 e in
+      rw (add-zero (c * z .p)) at (page-from z spare c 0 k) ∙ blank-after z (spareOnly spare) c h 0 (0 + k) (omega arith) (omega arith) first))
+      (λ h. fitting-fits c 0 (omega arith, refl) (rw (sub-zero, add-zero) h))
 
   -- so do several
-  pub span-split : (c n : ℕ) → ((j : ℕ) → j < n → kind (headTag z (spareOnly spare) (c + j)) ≡ 255)
+  pub span-split : (c n : ℕ) → ((j : ℕ) → j < n → kind (tagOf z (spareOnly spare) (c + j) 0) ≡ 255)
       → allBelow (n * z .p) (blankFrom spare (c * z .p)) ≡ allBelow n (fitsFrom z (spareOnly spare) c)
   unfolding fitsFrom blankFrom
   span-split c n h = below-rows n (z .p) (blankFrom spare (c * z .p)) ∙ below-alike n _ (fitsFrom z (spareOnly spare) c) (λ j q.

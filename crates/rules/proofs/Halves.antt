@@ -2,7 +2,7 @@
 use mathlib.Core.Path.{_≡_, sym, _∙_}
 use mathlib.Core.Logic.{⊎-elim}
 use mathlib.Core.List.{List}
-use Prim.Native.Nat.{ℕ, zero, suc, _+_, _-_, _≤_, _<_}
+use Prim.Native.Nat.{ℕ, zero, suc, _+_, _-_, _*_, _≤_, _<_}
 use native.Mathlib.Omega.{arith}
 use lib.ListN.{getD}
 use lib.Dec.{ltb}
@@ -12,7 +12,10 @@ use Rattle.lists.proofs.Tests.{true-or-false}
 use Rattle.lists.proofs.Parts.{getD-part}
 use Rattle.model.specs.Spare.{ordinal}
 use Rattle.rules.specs.Pages.{lowFirst}
-use Rattle.rules.proofs.Later.{digits}
+
+-- numbers that are the same have the same bytes
+digits : (a b c d : ℕ) → a * 256 + b ≡ c * 256 + d → b < 256 → d < 256 → (a ≡ c) × (b ≡ d)
+digits a b c d e h g = (omega arith, omega arith)
 
 module _ (l : List ℕ) (bytes : (i : ℕ) → getD l i 0 < 256) where
   low-same : (i j n : ℕ) → lowFirst l i n ≡ lowFirst l j n → (k : ℕ) → k < n → getD l (i + k) 0 ≡ getD l (j + k) 0

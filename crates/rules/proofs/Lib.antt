@@ -5,3 +5,4 @@ pub mod Page
 pub mod Runs
 pub mod SameSpare
 pub mod Slots
+pub mod Walk

@@ -1,6 +1,6 @@
 -- The rules for a page, by what the page is and where it stands.
 use mathlib.Core.Path.{_≡_, refl, _∙_}
-use mathlib.Core.Bool.{Bool, true, false, _&&_, _||_, and-assoc}
+use mathlib.Core.Bool.{Bool, true, _&&_, _||_, and-assoc}
 use mathlib.Core.Bool as bool
 use mathlib.Core.Logic.{_⊎_, inl, inr, ⊎-elim}
 use mathlib.Core.List.{List, [], _∷_}
@@ -13,13 +13,12 @@ use Rattle.lists.specs.Lists.{every, within}
 use Rattle.lists.proofs.Tests.{same-truth, and-left, and-right, and-true, or-left, or-second, or-cases, every-at, every-more, every-none, within-low, within-high, within-true}
 use Rattle.model.specs.declared.Sizes.{Sizes}
 use Rattle.model.specs.Sizes.{Device, bucketSize, pagesFor}
-use Rattle.model.specs.Spare.{blank, writeKind, kind, ordinal, pages, epoch, back, offset, extent, zeros}
+use Rattle.model.specs.Spare.{writeKind, kind, ordinal, pages, epoch, back, offset, extent, zeros}
 use Rattle.model.specs.Stores.{tagOf}
-use Rattle.model.specs.Image.{follows, spansBucket, fieldsFit, pageFits}
+use Rattle.model.specs.Image.{spansBucket, fieldsFit}
 use Rattle.model.proofs.Limits.{pages-hold, pages-least, pages-some}
-use Rattle.model.proofs.Rules.{Fields, fields-of, fields-test, Goes, begins, goes-on, follows-of}
-use Rattle.image.proofs.First.{kind-used}
-use Rattle.rules.specs.Pages.{logFits, kindFits, fitsAt}
+use Rattle.model.proofs.Rules.{Fields, fields-of, fields-test, Goes, begins, goes-on, Ruled}
+use Rattle.rules.specs.Pages.{logFits, kindFits, sameBucket, logGoes, fitsAt}
 
 -- the pages that a log takes hold its bytes, and one page less would not
 pub takes-test : (z : Sizes) → 1 ≤ z .s → (n m : ℕ) → (leb n (m * z .s) && ltb (m * z .s) (n + z .s)) ≡ eqb m (pagesFor z n)
@@ -41,21 +40,18 @@ grouped-five : (a b c d e : Bool) → (a && b && c && (d && e)) ≡ every (a ∷
 unfolding every
 grouped-five a b c d e = simp (and-assoc, bool.and-true)
 
-pub grouped-three : (a b c : Bool) → (a && b && c) ≡ every (a ∷ b ∷ c ∷ [])
+pub grouped-log : (a b c d e : Bool) → (a && (b && c && d) && e) ≡ every (a ∷ b ∷ c ∷ d ∷ e ∷ [])
 unfolding every
-grouped-three a b c = simp (and-assoc, bool.and-true)
+grouped-log a b c d e = simp (and-assoc, bool.and-true)
 
 pub grouped-four : (a b c d : Bool) → (a && (b && c) && d) ≡ every (a ∷ b ∷ c ∷ d ∷ [])
 unfolding every
 grouped-four a b c d = simp (and-assoc, bool.and-true)
 
-pub fields-used : (z : Sizes) (tag : List ℕ) → fieldsFit z tag ≡ true → blank tag ≡ false
-fields-used z tag h = kind-used tag (λ e. omega (arith, fields-of z tag h .kind-high))
-
 -- ---- the rules for one page, in the parts that are tested
 
 module _ (z : Sizes) (tag : List ℕ) where
-  pub log-tested : Fields z tag → logFits z tag ≡ true
+  log-tested : Fields z tag → logFits z tag ≡ true
   unfolding logFits
   log-tested f = and-true (eq-eqb _ _ (f .pages-are)) (le-leb _ _ (f .bytes-inside))
 
@@ -124,40 +120,20 @@ module _ (z : Sizes) (tag : List ℕ) where
           (every-more _ _ (kind-tested f) every-none))))
 
 module _ (z : Sizes) (d : Device) (c : ℕ) where
-  -- the rules for page k, by where it stands
+  -- the test of page k, by where it stands
   pub first-page : fitsAt z d c 0 ≡ (fieldsFit z (tagOf z d c 0) && eqb (ordinal (tagOf z d c 0)) 0)
   unfolding fitsAt
   first-page = refl
 
-  pub later-page : (k : ℕ) → (k ≡ 0 → ⊥) → fitsAt z d c k ≡ (fieldsFit z (tagOf z d c k) && follows (tagOf z d c (k - 1)) (tagOf z d c k))
+  pub later-page : (k : ℕ) → (k ≡ 0 → ⊥) → fitsAt z d c k ≡ (sameBucket (tagOf z d c (k - 1)) (tagOf z d c k) && logGoes z (tagOf z d c (k - 1)) (tagOf z d c k))
   unfolding fitsAt
   later-page zero n = absurd (n refl)
   later-page (suc k) n = let e : suc k - 1 ≡ k = omega arith in rw e
 
-  pub either-page : (k : ℕ) → pageFits z d c k ≡ (blank (tagOf z d c k) || fitsAt z d c k)
-  unfolding pageFits fitsAt
-  either-page zero = refl
-  either-page (suc k) = refl
-
-  pub fits-fields : (k : ℕ) → fitsAt z d c k ≡ true → fieldsFit z (tagOf z d c k) ≡ true
-  unfolding fitsAt
-  fits-fields zero h = and-left _ _ h
-  fits-fields (suc k) h = and-left _ _ h
-
   -- a page that fits has an ordinal below its log's count
-  pub ordinal-fits : 1 ≤ z .s → (k : ℕ) → fitsAt z d c k ≡ true → ordinal (tagOf z d c k) < pages (tagOf z d c k)
-  unfolding fitsAt
-  ordinal-fits some zero h =
-      first-below z (tagOf z d c 0) some (fields-of z _ (and-left (fieldsFit z (tagOf z d c 0)) _ h)) (eqb-true _ _ (and-right (fieldsFit z (tagOf z d c 0)) _ h))
-  ordinal-fits some (suc k) h = go (follows-of _ _ (and-right (fieldsFit z (tagOf z d c (suc k))) _ h) .goes)
+  pub ordinal-fits : 1 ≤ z .s → (k : ℕ) → Ruled z d c k → ordinal (tagOf z d c k) < pages (tagOf z d c k)
+  ordinal-fits some k r = go (r .goes)
     where
-      go : Goes (tagOf z d c k) (tagOf z d c (suc k)) → ordinal (tagOf z d c (suc k)) < pages (tagOf z d c (suc k))
-      go (begins o w) = first-below z (tagOf z d c (suc k)) some (fields-of z _ (and-left (fieldsFit z (tagOf z d c (suc k))) _ h)) o
-      go (goes-on o u n f l) = u
-
-  pub no-kind : (k : ℕ) → kind (tagOf z d c k) ≡ 255 → fitsAt z d c k ≡ false
-  no-kind k e = go (fitsAt z d c k) refl
-    where
-      go : (t : Bool) → fitsAt z d c k ≡ t → fitsAt z d c k ≡ false
-      go true h = absurd (omega (arith, fields-of z (tagOf z d c k) (fits-fields k h) .kind-high))
-      go false h = h
+      go : Goes z d c k → ordinal (tagOf z d c k) < pages (tagOf z d c k)
+      go (begins o w) = first-below z (tagOf z d c k) some (r .fields) o
+      go (goes-on j e p o u n f l) = u

@@ -10,18 +10,17 @@ use borrow.Author.Tests.{eqb-true}
 use Rattle.lists.specs.Lists.{part}
 use Rattle.lists.proofs.Tests.{and-left, and-right, and-true}
 use Rattle.lists.proofs.Turns.{all-more}
-use Rattle.lists.proofs.Rows.{all-below}
 use Rattle.lists.proofs.Parts.{getD-part, length-part-fits}
 use Rattle.model.specs.declared.Sizes.{Sizes}
 use Rattle.model.specs.Sizes.{pageIndex}
-use Rattle.model.specs.Spare.{ordinal, pages}
+use Rattle.model.specs.Spare.{ordinal, pages, zeros}
 use Rattle.model.specs.Stores.{tagOf}
-use Rattle.model.specs.Image.{fieldsFit}
+use Rattle.model.proofs.Rules.{Ruled}
 use Rattle.image.specs.Chip.{Chip, spareOnly}
 use Rattle.image.proofs.Place.{page-inside}
 use Rattle.rules.specs.Pages.{lowFirst, fitsAt, Fitting}
-use Rattle.rules.proofs.Page.{later-page, fits-fields, ordinal-fits}
-use Rattle.rules.proofs.Later.{runs-on}
+use Rattle.rules.proofs.Page.{later-page, ordinal-fits}
+use Rattle.rules.proofs.Later.{fitting-ruled, runs-on}
 use Rattle.rules.proofs.Halves.{next-below, next-bytes, next-ordinal, same-byte}
 
 module _ (z : Sizes) (l : List ℕ) (c : ℕ) where
@@ -43,11 +42,12 @@ module _ (z : Sizes) (l : List ℕ) (c : ℕ) where
     start-inside e h g = let q : (c * z .p + (e - 1)) * 16 + 16 ≤ length l = page-inside chip inside (omega arith) in omega (arith, h)
 
     -- it fits, as those below it do
-    before-fits : (e : ℕ) → 1 ≤ e → Fitting z (spareOnly l) c e → fieldsFit z (part l (start e - 16) 16) ≡ true
+    before-fits : (e : ℕ) → 1 ≤ e → Fitting z (spareOnly l) c e → Ruled z (spareOnly l) c (e - 1)
+    before-fits e h f = fitting-ruled z (spareOnly l) c e (f .1) (e - 1) (omega (arith, h))
+
+    before-zeros : (e : ℕ) → 1 ≤ e → Fitting z (spareOnly l) c e → zeros (part l (start e - 16) 16) ≡ true
     unfolding tagOf pageIndex
-    before-fits e h f =
-        let b : start e - 16 ≡ (c * z .p + (e - 1)) * 16 = omega (arith, h) in
-        rw b (fits-fields z (spareOnly l) c (e - 1) (all-below e (fitsAt z (spareOnly l) c) (f .1) (e - 1) (omega (arith, h))))
+    before-zeros e h f = let b : start e - 16 ≡ (c * z .p + (e - 1)) * 16 = omega (arith, h) in rw b (before-fits e h f .fields .zeros-are)
 
     pub ordinal-below : (e : ℕ) → 1 ≤ e → Fitting z (spareOnly l) c e → getD l (start e - 15) 0 < getD l (start e - 14) 0
     unfolding ordinal pages tagOf pageIndex
@@ -56,7 +56,7 @@ module _ (z : Sizes) (l : List ℕ) (c : ℕ) where
         let a : start e - 15 ≡ at + 1 = omega (arith, h) in
         let b : start e - 14 ≡ at + 2 = omega (arith, h) in
         rw (a, b, sym (getD-part l at 16 1 (omega arith)), sym (getD-part l at 16 2 (omega arith)))
-        (ordinal-fits z (spareOnly l) c (omega (arith, chip .limits .s-low)) (e - 1) (all-below e (fitsAt z (spareOnly l) c) (f .1) (e - 1) (omega (arith, h))))
+        (ordinal-fits z (spareOnly l) c (omega (arith, chip .limits .s-low)) (e - 1) (before-fits e h f))
 
     module _ (bytes : (i : ℕ) → getD l i 0 < 256) (e first second left : ℕ) (run : Run e first second left) (one : 1 ≤ left) where
       at : ℕ
@@ -117,8 +117,8 @@ module _ (z : Sizes) (l : List ℕ) (c : ℕ) where
             let b : (c * z .p + (e - 1)) * 16 ≡ at = omega (arith, run .some) in
             later-page z (spareOnly l) c e (λ n. omega (arith, run .some))
             ∙ rw (here, b)
-            (runs-on z (part l at 16) (part l (at + 16) 16) (before-fits e (run .some) (run .fits))
-            (length-part-fits l at 16 (omega (arith, ends))) (length-part-fits l (at + 16) 16 ends)
+            (runs-on z (part l at 16) (part l (at + 16) 16) (length-part-fits l at 16 (omega (arith, ends))) (length-part-fits l (at + 16) 16 ends)
+            (before-zeros e (run .some) (run .fits))
             (next-ordinal l bytes at less first-half second-half) more-next
             (same-byte l bytes at less first-half second-half))
 

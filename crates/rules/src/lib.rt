@@ -2,23 +2,26 @@
 // The first page of a bucket is tested on its fields: a contract holds of all spare bytes that say these fields.
 // A later page is compared with the page before it, which fits: bytes that are the same say fields that fit too.
 // Most pages go on with a log, and are taken in runs: two numbers of eight bytes tell it.
+// A bucket with a spoiled page does not pass so: it is gone through page by page, by the rules as they are written.
 use model::Sizes;
 use spare::Fields;
+use spare::Seen;
 ghost use mathlib.Core.Path.{_≡_};
-ghost use mathlib.Core.Bool.{true, false, _&&_};
+ghost use mathlib.Core.Bool.{true, _&&_, _||_};
 ghost use mathlib.Core.List.{List, map};
 ghost use Prim.Native.Nat.{ℕ, _+_, _-_, _*_, _%_, _≤_, _<_};
 ghost use lib.ListN.{length};
 ghost use lib.Dec.{eqb};
 ghost use Rattle.lists.specs.Lists.{allBelow, times, distinct, keep, below};
 ghost use Rattle.model.specs.Sizes.{body, pagesFor};
-ghost use Rattle.model.specs.Spare.{writeKind, kind, ordinal, zeros};
-ghost use Rattle.model.specs.Image.{follows, fieldsFit, bucketFits, used, epochOf, bodyFits};
+ghost use Rattle.model.specs.Spare.{writeKind, kind, zeros};
+ghost use Rattle.model.specs.Stores.{tagOf};
+ghost use Rattle.model.specs.Image.{continues, shares, fieldsFit, beginsLog, continuesLog, bucketFits, used, epochOf, bodyFits};
 ghost use Rattle.model.specs.Ledger.{wellFormed};
 ghost use Rattle.model.proofs.Limits.{Limits};
 ghost use Rattle.spare.specs.Fields.{fields};
-ghost use Rattle.image.specs.Chip.{Chip, spareOnly};
-ghost use Rattle.rules.specs.Pages.{logFits, kindFits, sameBucket, lowFirst, goesOn, logGoes, fitsAt, Fitting, Stops, fitsFrom, NoKinds, Span};
+ghost use Rattle.image.specs.Chip.{Chip, HeadAt, spareOnly};
+ghost use Rattle.rules.specs.Pages.{logFits, kindFits, sameBucket, lowFirst, goesOn, logGoes, fitsAt, Fitting, isBehind, ruled, stands, fitsFrom, NoKinds, Span};
 ghost use Rattle.rules.specs.Slots.{Tells};
 
 // Whether a log takes so many pages: they hold its bytes, and one page less would not. No division is made: it takes long.
@@ -144,8 +147,7 @@ fn later_fits(z: Sizes, before: &[u8], page: &[u8]) -> bool
     requires { ⌜ Limits z ⌝ }
     requires { ⌜ length (now before) ≡ 16 ⌝ }
     requires { ⌜ length (now page) ≡ 16 ⌝ }
-    requires { ⌜ fieldsFit z (now before) ≡ true ⌝ }
-    ensures { λ r. ⌜ r ≡ (fieldsFit z (now (page .entry)) && follows (now (before .entry)) (now (page .entry))) ⌝ }
+    ensures { λ r. ⌜ r ≡ (sameBucket (now (before .entry)) (now (page .entry)) && logGoes z (now (before .entry)) (now (page .entry))) ⌝ }
 {
     if !same_bucket(before, page) {
         return false;
@@ -157,7 +159,6 @@ fn later_fits_at(z: Sizes, c: usize, k: usize, spare: &[u8]) -> bool
     requires { ⌜ Chip z (now spare) ⌝ }
     requires { ⌜ c < z .c ⌝ }
     requires { ⌜ (1 ≤ k) × (k < z .p) ⌝ }
-    requires { ⌜ Fitting z (spareOnly (now spare)) c k ⌝ }
     ensures { λ r. ⌜ r ≡ fitsAt z (spareOnly (now (spare .entry))) c k ⌝ }
 {
     let start = (c * z.p + k) * 16;
@@ -231,7 +232,7 @@ fn fitting_from(z: Sizes, c: usize, spare: &[u8]) -> usize
     requires { ⌜ Chip z (now spare) ⌝ }
     requires { ⌜ c < z .c ⌝ }
     requires { ⌜ Fitting z (spareOnly (now spare)) c 1 ⌝ }
-    ensures { λ r. ⌜ Stops z (spareOnly (now (spare .entry))) c r ⌝ }
+    ensures { λ r. ⌜ Fitting z (spareOnly (now (spare .entry))) c r ⌝ }
 {
     let mut k = run_end(z, c, 1, spare);
     while k < z.p {
@@ -247,7 +248,7 @@ fn fitting_from(z: Sizes, c: usize, spare: &[u8]) -> usize
 fn fitting(z: Sizes, c: usize, spare: &[u8]) -> usize
     requires { ⌜ Chip z (now spare) ⌝ }
     requires { ⌜ c < z .c ⌝ }
-    ensures { λ r. ⌜ Stops z (spareOnly (now (spare .entry))) c r ⌝ }
+    ensures { λ r. ⌜ Fitting z (spareOnly (now (spare .entry))) c r ⌝ }
 {
     if !first_fits_at(z, c, spare) {
         return 0;
@@ -255,14 +256,121 @@ fn fitting(z: Sizes, c: usize, spare: &[u8]) -> usize
     fitting_from(z, c, spare)
 }
 
-// Blank pages come only at the end.
+// Whether a page shares kind, epoch and back-end bucket with the page that speaks for its bucket.
+fn shares(head: Fields, f: Fields) -> bool
+    ensures { λ r. ⌜ ((first tag : List ℕ) → fields first ≡ head → fields tag ≡ f → r ≡ shares first tag) ⌝ }
+{
+    (f.kind == head.kind) & (f.epoch == head.epoch) & (f.back == head.back)
+}
+
+// Whether a page continues the log of the page before it.
+fn continues(before: Fields, f: Fields) -> bool
+    ensures { λ r. ⌜ ((last tag : List ℕ) → fields last ≡ before → fields tag ≡ f → r ≡ continues last tag) ⌝ }
+{
+    let next = is_next(before.ordinal, f.ordinal);
+    let log = (f.pages == before.pages) & (f.offset == before.offset) & (f.last == before.last);
+    next & log & (f.ordinal < f.pages)
+}
+
+// The same of page k, which says these fields. A page that is spoiled has ended the log before it.
+fn continues_log(z: Sizes, c: usize, k: usize, f: Fields, spare: &[u8]) -> bool
+    requires { ⌜ Chip z (now spare) ⌝ }
+    requires { ⌜ (c < z .c) × (k < z .p) ⌝ }
+    requires { ⌜ fields (tagOf z (spareOnly (now spare)) c k) ≡ f ⌝ }
+    ensures { λ r. ⌜ r ≡ continuesLog z (spareOnly (now (spare .entry))) c k ⌝ }
+{
+    if k == 0 {
+        return false;
+    }
+    let page = image::page_seen(z, c, k - 1, spare);
+    match page {
+        Seen::Blank => false,
+        Seen::Spoiled => false,
+        Seen::Programmed(before) => continues(before, f),
+    }
+}
+
+// Whether page k begins a log or continues one. In a Read or Dirty bucket only the first programmed page may begin one.
+fn in_order(z: Sizes, c: usize, k: usize, head: usize, f: Fields, spare: &[u8]) -> bool
+    requires { ⌜ Chip z (now spare) ⌝ }
+    requires { ⌜ (c < z .c) × (k < z .p) ⌝ }
+    requires { ⌜ fields (tagOf z (spareOnly (now spare)) c k) ≡ f ⌝ }
+    requires { ⌜ HeadAt z (spareOnly (now spare)) c head ⌝ }
+    ensures { λ r. ⌜ r ≡ (beginsLog z (spareOnly (now (spare .entry))) c k || continuesLog z (spareOnly (now (spare .entry))) c k) ⌝ }
+{
+    let begins = (f.ordinal == 0) & ((f.kind == model::WRITE_KIND) | (k <= head));
+    begins | continues_log(z, c, k, f, spare)
+}
+
+// The rules for page k, which is programmed with these fields.
+fn rules_hold(z: Sizes, c: usize, k: usize, head: usize, f: Fields, spare: &[u8]) -> bool
+    requires { ⌜ Chip z (now spare) ⌝ }
+    requires { ⌜ (c < z .c) × (k < z .p) ⌝ }
+    requires { ⌜ fields (tagOf z (spareOnly (now spare)) c k) ≡ f ⌝ }
+    requires { ⌜ HeadAt z (spareOnly (now spare)) c head ⌝ }
+    ensures { λ r. ⌜ r ≡ ruled z (spareOnly (now (spare .entry))) c k ⌝ }
+{
+    let zeroed = spare::zeroed(spare, c * z.p + k);
+    let first = spare::fields_at(spare, c * z.p + head);
+    let fits = fields_fit(z, f, zeroed) & shares(first, f);
+    fits & in_order(z, c, k, head, f, spare)
+}
+
+// Whether page k is not behind a blank one.
+fn is_behind(z: Sizes, c: usize, k: usize, spare: &[u8]) -> bool
+    requires { ⌜ Chip z (now spare) ⌝ }
+    requires { ⌜ (c < z .c) × (k < z .p) ⌝ }
+    ensures { λ r. ⌜ r ≡ isBehind z (spareOnly (now (spare .entry))) c k ⌝ }
+{
+    if k == 0 {
+        return true;
+    }
+    !image::page_blank(z, c, k - 1, spare)
+}
+
+// The rules for page k, by what it is. A spoiled one counts as used, and that is all.
+fn page_fits(z: Sizes, c: usize, k: usize, head: usize, spare: &[u8]) -> bool
+    requires { ⌜ Chip z (now spare) ⌝ }
+    requires { ⌜ (c < z .c) × (k < z .p) ⌝ }
+    requires { ⌜ HeadAt z (spareOnly (now spare)) c head ⌝ }
+    ensures { λ r. ⌜ r ≡ stands z (spareOnly (now (spare .entry))) c k ⌝ }
+{
+    let page = image::page_seen(z, c, k, spare);
+    match page {
+        Seen::Blank => true,
+        Seen::Spoiled => is_behind(z, c, k, spare),
+        Seen::Programmed(f) => { is_behind(z, c, k, spare) & rules_hold(z, c, k, head, f, spare) }
+    }
+}
+
+// The rules for every page of a bucket, one after the other.
+fn pages_fit(z: Sizes, c: usize, spare: &[u8]) -> bool
+    requires { ⌜ Chip z (now spare) ⌝ }
+    requires { ⌜ c < z .c ⌝ }
+    ensures { λ r. ⌜ r ≡ bucketFits z (spareOnly (now (spare .entry))) c ⌝ }
+{
+    let head = image::head(z, c, spare);
+    let mut k = 0;
+    while k < z.p {
+        if !page_fits(z, c, k, head, spare) {
+            return false;
+        }
+        k += 1;
+    }
+    true
+}
+
+// Most buckets are pages that fit, each behind the one before it, and then blank ones. Of any other each page is looked at by itself.
 pub fn bucket_fits(z: Sizes, c: usize, spare: &[u8]) -> bool
     requires { ⌜ Chip z (now spare) ⌝ }
     requires { ⌜ c < z .c ⌝ }
     ensures { λ r. ⌜ r ≡ bucketFits z (spareOnly (now (spare .entry))) c ⌝ }
 {
     let n = fitting(z, c, spare);
-    spare::are_blank(spare, c * z.p + n, z.p - n)
+    if spare::are_blank(spare, c * z.p + n, z.p - n) {
+        return true;
+    }
+    pages_fit(z, c, spare)
 }
 
 // The first bucket from c on whose first page has a kind.

@@ -3,10 +3,10 @@ use Prim.Native.Nat.{ℕ, _+_, _*_}
 use mathlib.Core.Bool.{Bool}
 use mathlib.Core.List.{List}
 use Rattle.lists.specs.Lists.{if_then_else_, part}
-use Rattle.model.specs.Spare.{two, blank, kind, ordinal, pages, epoch, back, offset, tagBytes}
+use Rattle.model.specs.Spare.{two, blank, spoiled, kind, ordinal, pages, epoch, back, offset, tagBytes}
 use Rattle.spare.specs.declared.Fields.{Fields}
 use Rattle.spare.specs.declared.Seen.{Seen}
-use Rattle.spare.specs.declared.Seen.the-variants.{Blank, Programmed}
+use Rattle.spare.specs.declared.Seen.the-variants.{Blank, Spoiled, Programmed}
 
 -- the spare bytes with these fields
 unfoldable pub tag : Fields → List ℕ
@@ -26,7 +26,7 @@ fields tag = record {
 
 -- what a page is by its spare bytes
 unfoldable pub seen : List ℕ → Seen
-seen tag = if blank tag then Blank else Programmed (fields tag)
+seen tag = if blank tag then Blank else if spoiled tag then Spoiled else Programmed (fields tag)
 
 -- page j of those from the first on is blank
 unfoldable pub blankFrom : List ℕ → (first j : ℕ) → Bool

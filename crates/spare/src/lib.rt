@@ -1,16 +1,18 @@
 // The sixteen spare bytes of a page: written from fields, and read.
 ghost use mathlib.Core.Path.{_≡_};
+ghost use mathlib.Core.Bool.{_&&_};
 ghost use Prim.Native.Nat.{_+_, _*_, _≤_};
 ghost use lib.Dec.{eqb};
 ghost use lib.ListN.{length};
 ghost use Rattle.lists.specs.Lists.{allBelow, same, part, ff};
-ghost use Rattle.model.specs.Spare.{two, four, blank, kind, ordinal, pages, epoch, back, zeros, entryTag};
+ghost use Rattle.model.specs.Spare.{two, four, blank, programmed, kind, ordinal, pages, epoch, back, zeros, entryTag};
 ghost use Rattle.spare.specs.Fields.{tag, fields, seen, blankFrom};
 
 // What the erased bytes of a blank page read as.
 pub const NO_KIND: u8 = 255;
 
-pub const NO_EPOCH: u32 = 4294967295;
+// The spare state that the chip reports for a spoiled page.
+pub const SPOILED_KIND: u8 = 0;
 
 // What the spare bytes of a programmed page say. `last` is the log's length less one.
 pub struct Fields {
@@ -26,6 +28,7 @@ pub struct Fields {
 // What a page is by its spare bytes.
 pub enum Seen {
     Blank,
+    Spoiled,
     Programmed(Fields),
 }
 
@@ -172,13 +175,16 @@ pub fn are_blank(spare: &[u8], page: usize, n: usize) -> bool
     all_erased(&spare[start..end])
 }
 
-// What sixteen spare bytes are: those of an erased page, or fields.
+// What sixteen spare bytes are: those of an erased page, those of a spoiled one, which say no more, or fields.
 fn seen_in(bytes: &[u8]) -> Seen
     requires { ⌜ length (now bytes) ≡ 16 ⌝ }
     ensures { λ r. ⌜ r ≡ seen (now (bytes .entry)) ⌝ }
 {
     if is_blank(bytes) {
         return Seen::Blank;
+    }
+    if bytes[0] == SPOILED_KIND {
+        return Seen::Spoiled;
     }
     let found = decode(bytes);
     Seen::Programmed(found)
@@ -273,17 +279,17 @@ pub fn kind_at(spare: &[u8], page: usize) -> u8
     spare[page * 16]
 }
 
-// Whether the page is the last of its log. The erased bytes of a blank one say that it is not.
+// Whether the page is the last of its log. A spoiled one is of no log, and the erased bytes of a blank one say that it is not the last.
 pub fn ends_at(spare: &[u8], page: usize) -> bool
     requires { ⌜ page * 16 + 16 ≤ length (now spare) ⌝ }
-    ensures { λ r. ⌜ r ≡ eqb (ordinal (part (now (spare .entry)) (page * 16) 16) + 1) (pages (part (now (spare .entry)) (page * 16) 16)) ⌝ }
+    ensures { λ r. ⌜ r ≡ (programmed (part (now (spare .entry)) (page * 16) 16) && eqb (ordinal (part (now (spare .entry)) (page * 16) 16) + 1) (pages (part (now (spare .entry)) (page * 16) 16))) ⌝ }
 {
     let start = page * 16;
     let ordinal = spare[start + 1] as u16;
-    ordinal + 1 == spare[start + 2] as u16
+    (spare[start] != SPOILED_KIND) & (ordinal + 1 == spare[start + 2] as u16)
 }
 
-// The epoch of a page, or `NO_EPOCH`.
+// The epoch of a page; the erased bytes of a blank one read as 4,294,967,295.
 pub fn epoch_at(spare: &[u8], page: usize) -> u32
     requires { ⌜ page * 16 + 16 ≤ length (now spare) ⌝ }
     ensures { λ r. ⌜ r ≡ epoch (part (now (spare .entry)) (page * 16) 16) ⌝ }

@@ -1,5 +1,5 @@
 use Rattle.lists.proofs.Filters.{take-more, pass-more}
-use Rattle.classes.specs.Columns.{isUsed}
+use Rattle.classes.specs.Columns.{isKind}
 use Rattle.lists.specs.Lists.{keep, row, below}
 use Rattle.model.specs.Sizes.{body}
 use Rattle.model.specs.Recover.{buckets}
@@ -16,10 +16,10 @@ use Rattle.classes.proofs.buckets.Statement.{statement}
 use Rattle.classes.proofs.buckets.Tie as tie
 
 abbrev Inv-loop : tie.InvT-loop
-Inv-loop z occupied spare end items₀ n₀ c₀ items n c = (c ≤ end) × (n ≤ c) × (length items ≡ 256) × (take n items ≡ keep (isUsed z (spareOnly spare) occupied) (below c))
+Inv-loop z kind spare end items₀ n₀ c₀ items n c = (c ≤ end) × (n ≤ c) × (length items ≡ 256) × (take n items ≡ keep (isKind z (spareOnly spare) kind) (below c))
 
 abbrev μ-loop : tie.MeasureT-loop
-μ-loop z occupied spare end items₀ n₀ c₀ items n c = end - c
+μ-loop z kind spare end items₀ n₀ c₀ items n c = end - c
 
 body-requires : tie.Need-body-requires Inv-loop μ-loop
 body-requires c κs = search needs
@@ -28,8 +28,8 @@ loop-holds : tie.Need-loop-holds Inv-loop μ-loop
 unfolding keep below row
 loop-holds c = (omega arith, omega arith, search needs, refl)
 
-is-used-requires : tie.Need-is-used-requires Inv-loop μ-loop
-is-used-requires c κs = search needs
+is-a-requires : tie.Need-is-a-requires Inv-loop μ-loop
+is-a-requires c κs = search needs
 
 cast-items : tie.Need-cast-items Inv-loop μ-loop
 cast-items c = search needs
@@ -50,8 +50,8 @@ loop-again : tie.Need-loop-again Inv-loop μ-loop
 loop-again c =
     let l = c .before .before .before .loop in
     let a = c .before .before .before .before .before .before .args in
-    let e = sym (c .before .is-used .ensures) in
-    let t = isUsed (a .z) (spareOnly (a .spare .now)) (a .occupied) in
+    let e = sym (c .before .is-a .ensures) in
+    let t = isKind (a .z) (spareOnly (a .spare .now)) (a .kind) in
     ⊎-elim
     (λ w. (
       omega arith,
@@ -81,7 +81,7 @@ buckets-spec =
     μ-loop
     body-requires
     loop-holds
-    is-used-requires
+    is-a-requires
     cast-items
     array-write-items
     add-n

@@ -1,9 +1,6 @@
-use mathlib.Core.Path.{_∙_}
-use Rattle.image.specs.Chip.{spareOnly}
 use Rattle.model.specs.Image.{endsLog}
 use Rattle.model.specs.Sizes.{pageIndex}
 use Rattle.model.specs.Stores.{tagOf}
-use Rattle.image.proofs.First.{ends-used}
 use Rattle.image.proofs.Place.{page-inside}
 use native.Mathlib.Omega.{arith}
 use Rattle.image.proofs.ends_log.Statement.{statement}
@@ -20,7 +17,7 @@ ends-at-requires c κs = page-inside (c .before .before .pre .0) (c .before .bef
 
 returns : tie.Need-returns
 unfolding endsLog tagOf pageIndex
-returns c = let a = c .before .before .before .args in c .ends-at .ensures ∙ ends-used (tagOf (a .z) (spareOnly (a .spare .now)) (a .c) (a .k))
+returns c = c .ends-at .ensures
 
 pub ends-log-spec : {M : Type 1} → statement M
 ends-log-spec = tie.close (tie.spec mul-ends-at add-ends-at ends-at-requires returns)

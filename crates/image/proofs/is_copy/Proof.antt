@@ -1,20 +1,18 @@
-use Rattle.model.specs.Image.{headTag, used, isCopy}
-use Rattle.image.proofs.First.{first-inside, first-tag, kind-blank}
 use Rattle.image.specs.Chip.{spareOnly}
-use native.Mathlib.Omega.{arith}
+use Rattle.image.proofs.First.{head-blank}
+use Rattle.model.specs.Image.{used, isCopy}
+use Rattle.model.specs.Spare.{programmed, spoiled}
+use borrow.Author.Needs.{needs}
 use Rattle.image.proofs.is_copy.Statement.{statement}
 use Rattle.image.proofs.is_copy.Tie as tie
 
-mul-kind-at : tie.Need-mul-kind-at
-mul-kind-at c = let p = c .before .before .pre in omega (arith, first-inside (p .0) (p .1 .0))
-
-kind-at-requires : tie.Need-kind-at-requires
-kind-at-requires c κs = let p = c .before .before .pre in first-inside (p .0) (p .1 .0)
+head-kind-requires : tie.Need-head-kind-requires
+head-kind-requires c κs = search needs
 
 returns : tie.Need-returns
-unfolding isCopy used headTag
-returns c = let o = c .before .before .before in let a = o .args in let d = spareOnly (a .spare .now) in
-    rw (c .kind-at .ensures, first-tag (a .z) d (a .c), kind-blank (a .z) d (a .c) 0 (o .pre .1 .1) (omega (arith, o .pre .0 .limits .p-low)))
+unfolding isCopy used programmed spoiled
+returns c = let s = c .before .before in let a = s .args in
+    rw (c .head-kind .ensures, head-blank (a .z) (spareOnly (a .spare .now)) (a .c) (s .pre .0 .limits .p-low) (s .pre .1 .1))
 
 pub is-copy-spec : {M : Type 1} → statement M
-is-copy-spec = tie.close (tie.spec mul-kind-at kind-at-requires returns)
+is-copy-spec = tie.close (tie.spec head-kind-requires returns)

@@ -1,24 +1,16 @@
-use Rattle.image.proofs.First.{first-inside, first-tag, write-kind}
-use Rattle.model.specs.Stores.{tagOf}
-use Rattle.model.specs.Image.{headTag, isWrite, used}
 use Rattle.image.specs.Chip.{spareOnly}
-use Rattle.model.specs.Spare.{kind}
-use lib.Dec.{eqb}
-use native.Mathlib.Omega.{arith}
-use mathlib.Core.Path.{ap, _∙_}
+use Rattle.image.proofs.First.{write-real}
+use Rattle.model.specs.Image.{headTag, used, isWrite}
+use borrow.Author.Needs.{needs}
 use Rattle.image.proofs.is_write.Statement.{statement}
 use Rattle.image.proofs.is_write.Tie as tie
 
-mul-kind-at : tie.Need-mul-kind-at
-mul-kind-at c = let p = c .before .before .pre in omega (arith, first-inside (p .0) (p .1))
-
-kind-at-requires : tie.Need-kind-at-requires
-kind-at-requires c κs = let p = c .before .before .pre in first-inside (p .0) (p .1)
+head-kind-requires : tie.Need-head-kind-requires
+head-kind-requires c κs = search needs
 
 returns : tie.Need-returns
-unfolding isWrite used headTag
-returns c = let a = c .before .before .before .args in let d = spareOnly (a .spare .now) in
-    rw (c .kind-at .ensures) (ap (λ t. eqb (kind t) 2) (first-tag (a .z) d (a .c)) ∙ write-kind (tagOf (a .z) d (a .c) 0))
+unfolding isWrite used
+returns c = let a = c .before .before .args in rw (c .head-kind .ensures) (write-real (headTag (a .z) (spareOnly (a .spare .now)) (a .c)))
 
 pub is-write-spec : {M : Type 1} → statement M
-is-write-spec = tie.close (tie.spec mul-kind-at kind-at-requires returns)
+is-write-spec = tie.close (tie.spec head-kind-requires returns)

@@ -1,4 +1,4 @@
-use Rattle.ledger.specs.Halves.{enters}
+use Rattle.ledger.specs.Halves.{taken}
 use Rattle.image.proofs.Place.{bucket-inside, page-inside}
 use Rattle.image.specs.Chip.{spareOnly}
 use Rattle.model.specs.Stores.{tagOf}
@@ -15,7 +15,7 @@ use Rattle.ledger.proofs.entered.Statement.{statement}
 use Rattle.ledger.proofs.entered.Tie as tie
 
 abbrev Inv-loop : tie.InvT-loop
-Inv-loop z l spare start k₀ k = (k ≤ z .p) × (allBelow k (enters z (spareOnly spare) l) ≡ true)
+Inv-loop z l spare start k₀ k = (k ≤ z .p) × (allBelow k (taken z (spareOnly spare) l) ≡ true)
 
 abbrev μ-loop : tie.MeasureT-loop
 μ-loop z l spare start k₀ k = z .p - k
@@ -27,15 +27,15 @@ loop-holds : tie.Need-loop-holds Inv-loop μ-loop
 unfolding allBelow
 loop-holds c = (omega arith, refl)
 
-add-is-entry : tie.Need-add-is-entry Inv-loop μ-loop
-add-is-entry c = omega (arith, page-inside {k = c .before .before .loop .k} (c .before .before .before .before .before .pre .0) (c .before .before .before .before .before .pre .1) (omega arith))
+add-is-taken : tie.Need-add-is-taken Inv-loop μ-loop
+add-is-taken c = omega (arith, page-inside {k = c .before .before .loop .k} (c .before .before .before .before .before .pre .0) (c .before .before .before .before .before .pre .1) (omega arith))
 
-is-entry-requires : tie.Need-is-entry-requires Inv-loop μ-loop
-is-entry-requires c κs = page-inside (c .before .before .before .before .before .pre .0) (c .before .before .before .before .before .pre .1) (omega arith)
+is-taken-requires : tie.Need-is-taken-requires Inv-loop μ-loop
+is-taken-requires c κs = page-inside (c .before .before .before .before .before .pre .0) (c .before .before .before .before .before .pre .1) (omega arith)
 
 returns : tie.Need-returns Inv-loop μ-loop
-unfolding enters tagOf pageIndex
-returns c = (c .before .before .before .before .loop .inv .0, c .before .before .before .before .loop .inv .1, λ h. sym (c .before .is-entry .ensures) ∙ not-true _ (c .if2 .taken))
+unfolding taken tagOf pageIndex
+returns c = (c .before .before .before .before .loop .inv .0, c .before .before .before .before .loop .inv .1, λ h. sym (c .before .is-taken .ensures) ∙ not-true _ (c .if2 .taken))
 
 add-k : tie.Need-add-k Inv-loop μ-loop
 add-k c = omega arith
@@ -44,8 +44,8 @@ loop-less : tie.Need-loop-less Inv-loop μ-loop
 loop-less c = omega arith
 
 loop-again : tie.Need-loop-again Inv-loop μ-loop
-unfolding enters tagOf pageIndex
-loop-again c = let l = c .before .before .before .before .loop in let a = c .before .before .before .before .before .before .before .args in (omega arith, all-more (l .k) (enters (a .z) (spareOnly (a .spare .now)) (a .l)) ∙ and-true (l .inv .1) (sym (c .before .is-entry .ensures) ∙ not-false _ (c .if2 .left)))
+unfolding taken tagOf pageIndex
+loop-again c = let l = c .before .before .before .before .loop in let a = c .before .before .before .before .before .before .before .args in (omega arith, all-more (l .k) (taken (a .z) (spareOnly (a .spare .now)) (a .l)) ∙ and-true (l .inv .1) (sym (c .before .is-taken .ensures) ∙ not-false _ (c .if2 .left)))
 
 returns-2 : tie.Need-returns-2 Inv-loop μ-loop
 returns-2 c = (c .before .before .loop .inv .0, c .before .before .loop .inv .1, λ h. absurd (omega arith))
@@ -58,8 +58,8 @@ entered-spec =
     μ-loop
     mul-start
     loop-holds
-    add-is-entry
-    is-entry-requires
+    add-is-taken
+    is-taken-requires
     returns
     add-k
     loop-less

@@ -2,7 +2,7 @@ use Rattle.ledger.proofs.Pages.{ledger-inside, entry-inside, kind-there
 use Rattle.image.specs.Chip.{spareOnly}
 use Rattle.model.specs.Ledger.{ledgerTag}
 use Rattle.model.specs.State.{entryEpoch}
-use Rattle.model.specs.Spare.{blank, kind}
+use Rattle.model.specs.Spare.{programmed, kind}
 use Rattle.model.specs.Stores.{tagOf}
 use Rattle.model.specs.Sizes.{pageIndex}
 use borrow.Author.Tests.{eq-eqb, ne-eqb}
@@ -28,8 +28,7 @@ kind-at-requires c κs = rw (c .before .body .ensures) (entry-inside (c .before 
 returns : tie.Need-returns
 unfolding entryEpoch ledgerTag tagOf pageIndex
 returns c = let a = c .before .before .before .before .before .args in let tag = ledgerTag (a .z) (spareOnly (a .spare .now)) (a .i) in
-    let none : kind tag ≡ 255 = rw (c .before .before .before .body .ensures) at (sym (c .before .kind-at .ensures) ∙ c .if1 .taken) in
-    let e : blank tag ≡ true = kind-there (a .z) (spareOnly (a .spare .now)) (a .i) (c .before .before .before .before .before .pre .1 .1) ∙ eq-eqb (kind tag) 255 none in rw e
+    let e : programmed tag ≡ false = kind-there (a .z) (spareOnly (a .spare .now)) (a .i) (c .before .before .before .before .before .pre .1 .1) ∙ ne-eqb (kind tag) 4 (λ q. c .if1 .taken (rw (c .before .before .before .body .ensures) at (c .before .kind-at .ensures) ∙ q)) in rw e
 
 epoch-at-requires : tie.Need-epoch-at-requires
 epoch-at-requires c κs = rw (c .before .before .before .body .ensures) (entry-inside (c .before .before .before .before .before .pre .0) (c .before .before .before .before .before .pre .1 .0))
@@ -37,7 +36,8 @@ epoch-at-requires c κs = rw (c .before .before .before .body .ensures) (entry-i
 returns-2 : tie.Need-returns-2
 unfolding entryEpoch ledgerTag tagOf pageIndex
 returns-2 c = let a = c .before .before .before .before .before .before .args in let tag = ledgerTag (a .z) (spareOnly (a .spare .now)) (a .i) in
-    let e : blank tag ≡ false = kind-there (a .z) (spareOnly (a .spare .now)) (a .i) (c .before .before .before .before .before .before .pre .1 .1) ∙ ne-eqb (kind tag) 255 (λ q. c .before .if1 .left (rw (c .before .before .before .before .body .ensures) at (c .before .before .kind-at .ensures) ∙ q)) in
+    let four : kind tag ≡ 4 = rw (c .before .before .before .before .body .ensures) at (sym (c .before .before .kind-at .ensures) ∙ c .before .if1 .left) in
+    let e : programmed tag ≡ true = kind-there (a .z) (spareOnly (a .spare .now)) (a .i) (c .before .before .before .before .before .before .pre .1 .1) ∙ eq-eqb (kind tag) 4 four in
     rw e (rw (c .before .before .before .before .body .ensures) at (c .epoch-at .ensures))
 
 pub entry-epoch-spec : {M : Type 1} → statement M

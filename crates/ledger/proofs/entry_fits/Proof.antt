@@ -1,5 +1,5 @@
 use Prim.Native.Nat.{_+_, _*_}
-use Rattle.ledger.proofs.Pages.{ledger-inside, entry-inside}
+use Rattle.ledger.proofs.Pages.{ledger-inside, entry-inside, fits-look}
 use Rattle.model.specs.Ledger.{ledgerTag, entryFits}
 use Rattle.model.specs.Spare.{blank}
 use Rattle.model.specs.Stores.{tagOf}
@@ -27,14 +27,14 @@ blank-at-requires c κs = rw (c .before .body .ensures) (entry-inside (c .before
 
 returns : tie.Need-returns
 unfolding entryFits ledgerTag tagOf pageIndex
-returns c = sym (or-left _ _ (rw (c .before .before .before .body .ensures) at (sym (c .before .blank-at .ensures) ∙ c .if1 .taken)))
+returns c = sym (fits-look _ _ ∙ or-left _ _ (rw (c .before .before .before .body .ensures) at (sym (c .before .blank-at .ensures) ∙ c .if1 .taken)))
 
-is-entry-requires : tie.Need-is-entry-requires
-is-entry-requires c κs = rw (c .before .before .before .body .ensures) (entry-inside (c .before .before .before .before .before .pre .0) (c .before .before .before .before .before .pre .1))
+is-taken-requires : tie.Need-is-taken-requires
+is-taken-requires c κs = rw (c .before .before .before .body .ensures) (entry-inside (c .before .before .before .before .before .pre .0) (c .before .before .before .before .before .pre .1))
 
 returns-2 : tie.Need-returns-2
 unfolding entryFits ledgerTag tagOf pageIndex
-returns-2 c = let a = c .before .before .before .before .before .before .args in let e : blank (part (a .spare .now) ((body (a .z) * a .z .p + a .i) * 16) 16) ≡ false = rw (c .before .before .before .before .body .ensures) at (sym (c .before .before .blank-at .ensures) ∙ c .before .if1 .left) in rw e (rw (c .before .before .before .before .body .ensures) at (c .is-entry .ensures))
+returns-2 c = let a = c .before .before .before .before .before .before .args in let e : blank (part (a .spare .now) ((body (a .z) * a .z .p + a .i) * 16) 16) ≡ false = rw (c .before .before .before .before .body .ensures) at (sym (c .before .before .blank-at .ensures) ∙ c .before .if1 .left) in rw (fits-look (a .z) (part (a .spare .now) ((body (a .z) * a .z .p + a .i) * 16) 16), e) (rw (c .before .before .before .before .body .ensures) at (c .is-taken .ensures))
 
 pub entry-fits-spec : {M : Type 1} → statement M
 entry-fits-spec =
@@ -45,5 +45,5 @@ entry-fits-spec =
     add-page
     blank-at-requires
     returns
-    is-entry-requires
+    is-taken-requires
     returns-2)

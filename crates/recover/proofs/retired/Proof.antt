@@ -1,10 +1,9 @@
-use mathlib.Core.List.{List, [], _++_, append-assoc}
-use Rattle.fifo.specs.declared.Fifo.{Fifo}
-use Rattle.recover.proofs.Queues.{column-again, column-fits, oldCopies, droppedCopies, droppedWrites, gc-fits, gc-is, picked-old, picked-copies, picked-writes}
+use mathlib.Core.List.{List, _++_, append-assoc}
+use Rattle.recover.proofs.Queues.{column-again, column-fits, spent, oldCopies, droppedCopies, droppedWrites, gc-fits, gc-is, picked-old, picked-copies, picked-writes}
 use Rattle.recover.specs.Kept.{picked}
 use Rattle.classes.proofs.Orders.{order-short}
 use Rattle.classes.specs.Columns.{inOrder, named, column}
-use Rattle.fifo.specs.View.{listOf, fifoOf}
+use Rattle.fifo.specs.View.{listOf}
 use Rattle.image.specs.Chip.{spareOnly}
 use Rattle.model.proofs.Formed.{formed-of}
 use Rattle.model.specs.Recover.{isDroppedWrite, isDroppedCopy, isOldCopy}
@@ -38,12 +37,14 @@ again s e room =
 listed : (s : tie.Start) (t : ℕ → Bool) → picked (column (s .args .z) (spareOnly (s .args .spare .now)) t) (s .args .order .now) ≡ picked (column (s .args .z) (spareOnly (s .args .spare .now)) t) (inOrder (s .args .z) (spareOnly (s .args .spare .now)))
 listed s t = ap (picked (column (s .args .z) (spareOnly (s .args .spare .now)) t)) (s .pre .1 .1 .0)
 
-first-is : (s : tie.Start) {last list : List ℕ} → last ≡ column (s .args .z) (spareOnly (s .args .spare .now)) (isOldCopy (s .args .z) (spareOnly (s .args .spare .now))) → (room : List ℕ) {none : Fifo} → none ≡ fifoOf []
-    → list ≡ listOf none ++ picked (take (length (s .args .order .now)) (last ++ drop (length (s .args .order .now)) room)) (s .args .order .now) → list ≡ oldCopies (s .args .z) (spareOnly (s .args .spare .now))
+-- the spent buckets, and behind them the old copies
+first-is : (s : tie.Start) {last list : List ℕ} → last ≡ column (s .args .z) (spareOnly (s .args .spare .now)) (isOldCopy (s .args .z) (spareOnly (s .args .spare .now))) → (room : List ℕ) {front : List ℕ} → front ≡ spent (s .args .z) (spareOnly (s .args .spare .now))
+    → list ≡ front ++ picked (take (length (s .args .order .now)) (last ++ drop (length (s .args .order .now)) room)) (s .args .order .now)
+    → list ≡ spent (s .args .z) (spareOnly (s .args .spare .now)) ++ oldCopies (s .args .z) (spareOnly (s .args .spare .now))
 first-is s e room n g =
     let z = s .args .z in
     let d = spareOnly (s .args .spare .now) in
-    g ∙ rw (n, again s e room) (listed s (isOldCopy z d) ∙ picked-old z d (s .pre .0 .limits) (formed-of z d (s .pre .1 .0)))
+    g ∙ rw (n, again s e room) (ap (λ (l : List ℕ). spent z d ++ l) (listed s (isOldCopy z d) ∙ picked-old z d (s .pre .0 .limits) (formed-of z d (s .pre .1 .0))))
 
 copies-listed : (s : tie.Start) → picked (s .args .dropped-copies .now) (s .args .order .now) ≡ droppedCopies (s .args .z) (spareOnly (s .args .spare .now))
 copies-listed s =
@@ -70,39 +71,40 @@ old-column-requires : tie.Need-old-column-requires
 old-column-requires c κs = let s = c .before .before .before .before .before .before .before in
     (s .pre .0, (s .pre .1 .0, (s .pre .1 .1 .0, (s .pre .1 .1 .1 .1 .0, length-take-le (length (s .args .order .now)) (c .before .blank-column .result) (omega (arith, c .before .blank-column .ensures, short s))))))
 
+buckets-requires : tie.Need-buckets-requires
+buckets-requires c κs = search needs
+
 array-share-prefix-old : tie.Need-array-share-prefix-old
-array-share-prefix-old c = let s = c .before .before .before .before .before .before .before .before .before in let z = s .args .z in let d = spareOnly (s .args .spare .now) in
-    column-fits z d (isOldCopy z d) (s .pre .1 .1 .0) (c .before .before .before .blank-column .result) (c .before .old-column .ensures)
+array-share-prefix-old c = let s = c .before .before .before .before .before .before .before .before .before .before in let z = s .args .z in let d = spareOnly (s .args .spare .now) in
+    column-fits z d (isOldCopy z d) (s .pre .1 .1 .0) (c .before .before .before .before .blank-column .result) (c .before .before .old-column .ensures)
 
 slice-aggregate-gather : tie.Need-slice-aggregate-gather
-slice-aggregate-gather c = let s = c .before .before .before .before .before .before .before .before .before .before in let z = s .args .z in let d = spareOnly (s .args .spare .now) in
-    sym (ap length (again s (c .before .before .old-column .ensures) (c .before .before .before .before .blank-column .result)) ∙ beside s (isOldCopy z d))
-
-empty-requires : tie.Need-empty-requires
-empty-requires c κs = search needs
+slice-aggregate-gather c = let s = c .before .before .before .before .before .before .before .before .before .before .before in let z = s .args .z in let d = spareOnly (s .args .spare .now) in
+    sym (ap length (again s (c .before .before .before .old-column .ensures) (c .before .before .before .before .before .blank-column .result)) ∙ beside s (isOldCopy z d))
 
 gather-requires : tie.Need-gather-requires
 gather-requires c κs = let s = c .before .before .before .before .before .before .before .before .before .before .before in let z = s .args .z in let d = spareOnly (s .args .spare .now) in
     let old = again s (c .before .before .before .old-column .ensures) (c .before .before .before .before .before .blank-column .result) in
     let first = ap (λ (l : List ℕ). length (picked l (s .args .order .now))) old ∙ ap length (listed s (isOldCopy z d)) ∙ ap length (picked-old z d (s .pre .0 .limits) (formed-of z d (s .pre .1 .0))) in
-    (ap length old ∙ beside s (isOldCopy z d), omega (arith, ap (λ (q : Fifo). length (listOf q)) (c .empty .ensures), first, gc-fits z d, s .pre .0 .limits .ledger-in, s .pre .0 .limits .c-high))
+    (ap length old ∙ beside s (isOldCopy z d), omega (arith, ap length (c .before .buckets .ensures), first, gc-fits z d, s .pre .0 .limits .ledger-in, s .pre .0 .limits .c-high))
 
 gather-requires-2 : tie.Need-gather-requires-2
 gather-requires-2 c κs = let s = c .before .before .before .before .before .before .before .before .before .before .before .before in let z = s .args .z in let d = spareOnly (s .args .spare .now) in
-    let second = copies-listed s in
-    (ap length (s .pre .1 .1 .1 .1 .1) ∙ beside s (isDroppedCopy z d), omega (arith, ap length (first-is s (c .before .before .before .before .old-column .ensures) (c .before .before .before .before .before .before .blank-column .result) (c .before .empty .ensures) (c .gather .ensures)), ap length second, gc-fits z d, s .pre .0 .limits .ledger-in, s .pre .0 .limits .c-high))
+    let first = first-is s (c .before .before .before .before .old-column .ensures) (c .before .before .before .before .before .before .blank-column .result) (c .before .before .buckets .ensures) (c .gather .ensures) in
+    (ap length (s .pre .1 .1 .1 .1 .1) ∙ beside s (isDroppedCopy z d), omega (arith, ap length first, length-append (spent z d) (oldCopies z d), ap length (copies-listed s), gc-fits z d, s .pre .0 .limits .ledger-in, s .pre .0 .limits .c-high))
 
 gather-requires-3 : tie.Need-gather-requires-3
 gather-requires-3 c κs = let s = c .before .before .before .before .before .before .before .before .before .before .before .before .before in let z = s .args .z in let d = spareOnly (s .args .spare .now) in
-    let first = first-is s (c .before .before .before .before .before .old-column .ensures) (c .before .before .before .before .before .before .before .blank-column .result) (c .before .before .empty .ensures) (c .before .gather .ensures) in
-    (ap length (s .pre .1 .1 .1 .0) ∙ beside s (isDroppedWrite z d), omega (arith, ap length (c .gather2 .ensures), length-append (listOf (c .before .gather .result)) (picked (s .args .dropped-copies .now) (s .args .order .now)), ap length first, ap length (copies-listed s), ap length (writes-listed s), gc-fits z d, s .pre .0 .limits .ledger-in, s .pre .0 .limits .c-high))
+    let first = first-is s (c .before .before .before .before .before .old-column .ensures) (c .before .before .before .before .before .before .before .blank-column .result) (c .before .before .before .buckets .ensures) (c .before .gather .ensures) in
+    (ap length (s .pre .1 .1 .1 .0) ∙ beside s (isDroppedWrite z d), omega (arith, ap length (c .gather2 .ensures), length-append (listOf (c .before .gather .result)) (picked (s .args .dropped-copies .now) (s .args .order .now)), ap length first, length-append (spent z d) (oldCopies z d), ap length (copies-listed s), ap length (writes-listed s), gc-fits z d, s .pre .0 .limits .ledger-in, s .pre .0 .limits .c-high))
 
 returns : tie.Need-returns
 returns c =
-    let blank-column = c .before .before .before .before .before .before .before .before .blank-column in
     let s = c .before .before .before .before .before .before .before .before .before .before .before .before .before .before in let z = s .args .z in let d = spareOnly (s .args .spare .now) in
-    let first = first-is s (c .before .before .before .before .before .before .old-column .ensures) (blank-column .result) (c .before .before .before .empty .ensures) (c .before .before .gather .ensures) in
-    c .gather3 .ensures ∙ rw (c .before .gather2 .ensures, first, copies-listed s, writes-listed s) (append-assoc (oldCopies z d) (droppedCopies z d) (droppedWrites z d)) ∙ gc-is z d
+    let first = first-is s (c .before .before .before .before .before .before .old-column .ensures) (c .before .before .before .before .before .before .before .before .blank-column .result) (c .before .before .before .before .buckets .ensures) (c .before .before .gather .ensures) in
+    c .gather3 .ensures
+    ∙ rw (c .before .gather2 .ensures, first, copies-listed s, writes-listed s) (append-assoc (spent z d ++ oldCopies z d) (droppedCopies z d) (droppedWrites z d))
+    ∙ append-assoc (spent z d) (oldCopies z d) (droppedCopies z d ++ droppedWrites z d) ∙ gc-is z d
 
 pub retired-spec : {M : Type 1} → statement M
 retired-spec =
@@ -112,9 +114,9 @@ retired-spec =
     array-borrow-prefix-old
     slice-aggregate-old-column
     old-column-requires
+    buckets-requires
     array-share-prefix-old
     slice-aggregate-gather
-    empty-requires
     gather-requires
     gather-requires-2
     gather-requires-3

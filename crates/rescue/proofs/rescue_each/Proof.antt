@@ -7,7 +7,8 @@ use Rattle.model.specs.Sizes.{diskSize}
 use Rattle.model.specs.Recover.{isRescued}
 use Rattle.geometry.specs.Geometry.{device}
 use Rattle.rescue.specs.Sources.{rescues}
-use Rattle.rescue.proofs.Bytes.{same-rescued, readable-of}
+use Rattle.rescue.proofs.Bytes.{readable-of}
+use Rattle.classes.proofs.SameSpare.{same-rescued}
 use Rattle.rescue.proofs.Reached.{next-high, next-low, next-rescued, none-between, Reached, reached-first, reached-more}
 use Rattle.rescue.proofs.rescue_each.Statement.{statement}
 use Rattle.rescue.proofs.rescue_each.Tie as tie

@@ -1,7 +1,7 @@
-use Rattle.image.proofs.Place.{bucket-inside}
-use Rattle.rules.proofs.Buckets.{bucket-split}
-use mathlib.Core.Path.{sym, _∙_}
 use native.Mathlib.Omega.{arith}
+use mathlib.Core.Path.{sym, _∙_}
+use Rattle.rules.proofs.Buckets.{fitting-fits}
+use Rattle.image.proofs.Place.{bucket-inside}
 use borrow.Author.Needs.{needs}
 use Rattle.rules.proofs.bucket_fits.Statement.{statement}
 use Rattle.rules.proofs.bucket_fits.Tie as tie
@@ -10,19 +10,26 @@ fitting-requires : tie.Need-fitting-requires
 fitting-requires c κs = search needs
 
 mul-are-blank : tie.Need-mul-are-blank
-mul-are-blank c = let o = c .before .before .before in omega (arith, bucket-inside (o .pre .0) (o .args .c) (o .pre .1))
+mul-are-blank c = let s = c .before .before .before in omega (arith, bucket-inside (s .pre .0) (s .args .c) (s .pre .1))
 
 add-are-blank : tie.Need-add-are-blank
-add-are-blank c = let o = c .before .before .before in omega (arith, bucket-inside (o .pre .0) (o .args .c) (o .pre .1), c .before .fitting .ensures .0 .0)
+add-are-blank c = let s = c .before .before .before in omega (arith, bucket-inside (s .pre .0) (s .args .c) (s .pre .1), c .before .fitting .ensures .0)
 
 sub-are-blank : tie.Need-sub-are-blank
 sub-are-blank c = search needs
 
 are-blank-requires : tie.Need-are-blank-requires
-are-blank-requires c κs = let o = c .before .before .before .before in omega (arith, bucket-inside (o .pre .0) (o .args .c) (o .pre .1), c .before .before .fitting .ensures .0 .0)
+are-blank-requires c κs = let s = c .before .before .before .before in omega (arith, bucket-inside (s .pre .0) (s .args .c) (s .pre .1), c .before .before .fitting .ensures .0)
 
 returns : tie.Need-returns
-returns c = let a = c .before .before .before .before .before .args in let f = c .before .before .before .fitting in c .are-blank .ensures ∙ sym (bucket-split (a .z) (a .spare .now) (a .c) (f .result) (f .ensures))
+returns c = let a = c .before .before .before .before .before .before .args in let f = c .before .before .before .before .fitting in
+    sym (fitting-fits (a .z) (a .spare .now) (a .c) (f .result) (f .ensures) (sym (c .before .are-blank .ensures) ∙ c .if1 .taken))
+
+pages-fit-requires : tie.Need-pages-fit-requires
+pages-fit-requires c κs = search needs
+
+returns-2 : tie.Need-returns-2
+returns-2 c = search needs
 
 pub bucket-fits-spec : {M : Type 1} → statement M
 bucket-fits-spec =
@@ -33,4 +40,6 @@ bucket-fits-spec =
     add-are-blank
     sub-are-blank
     are-blank-requires
-    returns)
+    returns
+    pages-fit-requires
+    returns-2)

@@ -3,7 +3,7 @@ use Rattle.image.specs.Chip.{spareOnly}
 use Rattle.lists.specs.Lists.{allBelow}
 use Rattle.lists.proofs.Turns.{all-more}
 use Rattle.lists.proofs.Tests.{and-true}
-use borrow.Author.Tests.{not-true, not-false}
+use borrow.Author.Tests.{not-false}
 use mathlib.Core.Path.{refl, sym, _∙_}
 use native.Mathlib.Omega.{arith}
 use borrow.Author.Needs.{needs}
@@ -15,7 +15,7 @@ first-fits-at-requires c κs = search needs
 
 returns : tie.Need-returns
 unfolding allBelow
-returns c = ((omega arith, refl), λ h. sym (c .before .first-fits-at .ensures) ∙ not-true _ (c .if1 .taken))
+returns c = (omega arith, refl)
 
 fitting-from-requires : tie.Need-fitting-from-requires
 unfolding allBelow

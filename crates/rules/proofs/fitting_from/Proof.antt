@@ -1,7 +1,7 @@
 use native.Mathlib.Omega.{arith}
 use Prim.Native.Nat.{_-_, _≤_}
 use mathlib.Core.Path.{sym, _∙_}
-use borrow.Author.Tests.{not-true, not-false}
+use borrow.Author.Tests.{not-false}
 use Rattle.lists.proofs.Tests.{and-true}
 use Rattle.lists.proofs.Turns.{all-more}
 use Rattle.image.specs.Chip.{spareOnly}
@@ -22,10 +22,10 @@ loop-holds : tie.Need-loop-holds Inv-loop μ-loop
 loop-holds c = (omega (arith, c .run-end .ensures .0), c .run-end .ensures .1)
 
 later-fits-at-requires : tie.Need-later-fits-at-requires Inv-loop μ-loop
-later-fits-at-requires c κs = let o = c .before .before .before .before .before in let l = c .before .before .loop in (o .pre .0, (o .pre .1 .0, ((l .inv .0, c .if1 .taken), l .inv .1)))
+later-fits-at-requires c κs = let o = c .before .before .before .before .before in let l = c .before .before .loop in (o .pre .0, (o .pre .1 .0, (l .inv .0, c .if1 .taken)))
 
 returns : tie.Need-returns Inv-loop μ-loop
-returns c = (c .before .before .before .before .loop .inv .1, λ h. sym (c .before .later-fits-at .ensures) ∙ not-true _ (c .if2 .taken))
+returns c = c .before .before .before .before .loop .inv .1
 
 add-run-end : tie.Need-add-run-end Inv-loop μ-loop
 add-run-end c = omega arith
@@ -40,7 +40,7 @@ loop-again : tie.Need-loop-again Inv-loop μ-loop
 loop-again c = (omega (arith, c .run-end2 .ensures .0), c .run-end2 .ensures .1)
 
 returns-2 : tie.Need-returns-2 Inv-loop μ-loop
-returns-2 c = (c .before .before .loop .inv .1, λ h. absurd (omega arith))
+returns-2 c = c .before .before .loop .inv .1
 
 pub fitting-from-spec : {M : Type 1} → statement M
 fitting-from-spec =

@@ -1,14 +1,10 @@
-use Rattle.rules.proofs.Page.{later-page, fits-fields}
-use Rattle.rules.specs.Pages.{fitsAt}
+use Rattle.rules.proofs.Page.{later-page}
 use Rattle.image.proofs.Place.{page-inside}
 use Rattle.image.specs.Chip.{spareOnly}
-use Rattle.model.specs.Image.{fieldsFit}
 use Rattle.model.specs.Stores.{tagOf}
 use Rattle.model.specs.Sizes.{pageIndex}
-use Rattle.lists.proofs.Rows.{all-below}
 use Rattle.lists.specs.Lists.{part}
 use lib.ListN.{length}
-use mathlib.Core.Bool.{true}
 use mathlib.Core.Path.{_≡_, sym, _∙_}
 use Prim.Native.Nat.{ℕ, _+_, _*_, _-_, _≤_}
 use native.Mathlib.Omega.{arith}
@@ -17,12 +13,7 @@ use Rattle.rules.proofs.later_fits_at.Statement.{statement}
 use Rattle.rules.proofs.later_fits_at.Tie as tie
 
 inside : (c : tie.Start) → (c .args .c * c .args .z .p + c .args .k) * 16 + 16 ≤ length (c .args .spare .now)
-inside c = page-inside (c .pre .0) (c .pre .1 .0) (c .pre .1 .1 .0 .1)
-
--- the page before it fits
-fit : (c : tie.Start) → fieldsFit (c .args .z) (tagOf (c .args .z) (spareOnly (c .args .spare .now)) (c .args .c) (c .args .k - 1)) ≡ true
-fit c = let a = c .args in let d = spareOnly (a .spare .now) in
-    fits-fields (a .z) d (a .c) (a .k - 1) (all-below (a .k) (fitsAt (a .z) d (a .c)) (c .pre .1 .1 .1 .1) (a .k - 1) (omega (arith, c .pre .1 .1 .0)))
+inside c = page-inside (c .pre .0) (c .pre .1 .0) (c .pre .1 .1 .1)
 
 mul-start : tie.Need-mul-start
 mul-start c = omega (arith, inside (c .before .before))
@@ -58,21 +49,16 @@ part-later-fits-end-2 : tie.Need-part-later-fits-end-2
 part-later-fits-end-2 c = omega (arith, inside (c .before .before .before))
 
 later-fits-requires : tie.Need-later-fits-requires
-unfolding tagOf pageIndex part
-later-fits-requires c κs = let o = c .before .before .before .before in let a = o .args in
-    let s : ℕ = (a .c * a .z .p + a .k) * 16 in
-    let one : s - (s - 16) ≡ 16 = omega (arith, o .pre .1 .1 .0) in
-    let before : s - 16 ≡ (a .c * a .z .p + (a .k - 1)) * 16 = omega (arith, o .pre .1 .1 .0) in
-    (o .pre .0 .limits, (search needs, (search needs, rw (one, before) (fit o))))
+later-fits-requires c κs = search needs
 
 returns : tie.Need-returns
 unfolding tagOf pageIndex part
 returns c = let o = c .before .before .before .before .before in let a = o .args in
     let s : ℕ = (a .c * a .z .p + a .k) * 16 in
-    let one : s - (s - 16) ≡ 16 = omega (arith, o .pre .1 .1 .0) in
+    let one : s - (s - 16) ≡ 16 = omega (arith, o .pre .1 .1) in
     let two : s + 16 - s ≡ 16 = omega arith in
-    let before : s - 16 ≡ (a .c * a .z .p + (a .k - 1)) * 16 = omega (arith, o .pre .1 .1 .0) in
-    rw (one, two, before) at (c .later-fits .ensures) ∙ sym (later-page (a .z) (spareOnly (a .spare .now)) (a .c) (a .k) (λ e. omega (arith, o .pre .1 .1 .0)))
+    let before : s - 16 ≡ (a .c * a .z .p + (a .k - 1)) * 16 = omega (arith, o .pre .1 .1) in
+    rw (one, two, before) at (c .later-fits .ensures) ∙ sym (later-page (a .z) (spareOnly (a .spare .now)) (a .c) (a .k) (λ e. omega (arith, o .pre .1 .1)))
 
 pub later-fits-at-spec : {M : Type 1} → statement M
 later-fits-at-spec =

@@ -4,7 +4,7 @@ use borrow.Author.Needs.{needs}
 use Rattle.rules.specs.Pages.{NoKinds}
 use Rattle.image.proofs.First.{first-inside, first-tag}
 use Rattle.image.specs.Chip.{spareOnly}
-use Rattle.model.specs.Image.{headTag}
+use Rattle.model.specs.Stores.{tagOf}
 use Rattle.model.specs.Spare.{kind}
 use Rattle.model.proofs.Limits.{on-chip}
 use mathlib.Core.Path.{_≡_, sym, ap, _∙_}
@@ -15,8 +15,8 @@ use Rattle.rules.proofs.next_kind.Statement.{statement}
 use Rattle.rules.proofs.next_kind.Tie as tie
 
 -- one more bucket
-more : (z : Sizes) (d : Device) (e j : ℕ) → (j < e → kind (headTag z d j) ≡ 255) → kind (headTag z d e) ≡ 255 → Dec (j ≡ e) → j < e + 1
-    → kind (headTag z d j) ≡ 255
+more : (z : Sizes) (d : Device) (e j : ℕ) → (j < e → kind (tagOf z d j 0) ≡ 255) → kind (tagOf z d e 0) ≡ 255 → Dec (j ≡ e) → j < e + 1
+    → kind (tagOf z d j 0) ≡ 255
 more z d e j all last (yes q) h = rw q last
 more z d e j all last (no n) h = all (omega arith)
 
@@ -48,9 +48,8 @@ loop-less : tie.Need-loop-less Inv-loop μ-loop
 loop-less c = omega arith
 
 loop-again : tie.Need-loop-again Inv-loop μ-loop
-unfolding headTag
 loop-again c = let o = c .before .before .before .before .before .before .before in let a = o .args in let l = c .before .before .before .before .loop in let d = spareOnly (a .spare .now) in
-    let none : kind (headTag (a .z) d (l .e)) ≡ 255 = ap kind (sym (first-tag (a .z) d (l .e))) ∙ (sym (c .before .kind-at .ensures) ∙ c .if1 .left) in (
+    let none : kind (tagOf (a .z) d (l .e) 0) ≡ 255 = ap kind (sym (first-tag (a .z) d (l .e))) ∙ (sym (c .before .kind-at .ensures) ∙ c .if1 .left) in (
       record {
         start = omega (arith, l .inv .0 .start);
         within = omega arith;

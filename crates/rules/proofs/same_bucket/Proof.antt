@@ -1,7 +1,7 @@
 use Rattle.rules.specs.Pages.{sameBucket}
 use Rattle.model.specs.Spare.{kind}
 use Rattle.lists.specs.Lists.{every, part, same}
-use Rattle.rules.proofs.Page.{grouped-three}
+use Rattle.lists.proofs.Tests.{every-three}
 use lib.Dec.{eqb}
 use lib.ListN.{getD}
 use borrow.Author.Needs.{needs}
@@ -41,7 +41,7 @@ shared-slice-read-result-3 c = search needs
 returns : tie.Need-returns
 unfolding sameBucket every part kind
 returns c = let a = c .before .before .before .before .before .before .before .before .args in let b = a .before .now in let p = a .page .now in
-    rw (c .before .before .before .equal .ensures) (grouped-three (same (part b 4 8) (part p 4 8)) (eqb (kind p) (kind b)) (eqb (getD p 3 0) 0))
+    rw (c .before .before .before .equal .ensures) (every-three (same (part b 4 8) (part p 4 8)) (eqb (kind p) (kind b)) (eqb (getD p 3 0) 0))
 
 pub same-bucket-spec : {M : Type 1} → statement M
 same-bucket-spec =

@@ -43,14 +43,11 @@ same-length-4 c = search needs
 returns-3 : tie.Need-returns-3
 returns-3 c = search needs
 
-tear-named-requires : tie.Need-tear-named-requires
-tear-named-requires c κs =
+damage-requires : tie.Need-damage-requires
+damage-requires c κs =
     let a = c .before .before .before .before .before .before .before .before .before .before .before .before .before .args in
     let passed = lent-passed (a .z) (device (a .flash .now) (a .spare .now) (a .disk .now)) (rw (c .before .before .before .before .before .before .lent-refusal .ensures) at (c .before .before .before .before .before .if2 .left)) in
     (record { limits = passed .0; spare-length = passed .1 .spare-length }, passed .1 .flash-length)
-
-torn-requires : tie.Need-torn-requires
-torn-requires c κs = search needs
 
 same-length-5 : tie.Need-same-length-5
 same-length-5 c = search needs
@@ -77,8 +74,7 @@ after-call-spec =
     same-length-3
     same-length-4
     returns-3
-    tear-named-requires
-    torn-requires
+    damage-requires
     same-length-5
     same-length-6
     returns-4)

@@ -1,21 +1,21 @@
-use borrow.Author.Needs.{needs}
 use Prim.Native.Nat.{_≤_, _-_}
 use mathlib.Core.Path.{_≡_}
 use lib.ListN.{length}
+use borrow.Author.Needs.{needs}
 use Rattle.restart.proofs.cuts.all_ways.Statement.{statement}
 use Rattle.restart.proofs.cuts.all_ways.Tie as tie
 
 abbrev Inv-loop : tie.InvT-loop
-Inv-loop z call allowance after flash₀ spare₀ disk₀ run back₀ sets set₀ flash spare disk back set = (set ≤ 16) × (sets ≤ 16) × (length flash ≡ length flash₀) × (length spare ≡ length spare₀) × (length disk ≡ length disk₀)
+Inv-loop z call allowance next flash₀ spare₀ disk₀ run back₀ end way₀ flash spare disk back way = (way ≤ 16) × (end ≤ 16) × (next .blanked ≤ 48) × (next .programmed ≤ 48) × (length flash ≡ length flash₀) × (length spare ≡ length spare₀) × (length disk ≡ length disk₀)
 
 abbrev μ-loop : tie.MeasureT-loop
-μ-loop z call allowance after flash₀ spare₀ disk₀ run back₀ sets set₀ flash spare disk back set = sets - set
+μ-loop z call allowance next flash₀ spare₀ disk₀ run back₀ end way₀ flash spare disk back way = end - way
 
 one-way-requires : tie.Need-one-way-requires Inv-loop μ-loop
 one-way-requires c κs = search needs
 
-sets-requires : tie.Need-sets-requires Inv-loop μ-loop
-sets-requires c κs = search needs
+ways-requires : tie.Need-ways-requires Inv-loop μ-loop
+ways-requires c κs = search needs
 
 loop-holds : tie.Need-loop-holds Inv-loop μ-loop
 loop-holds c = search needs
@@ -26,8 +26,8 @@ one-way-requires-2 c κs = search needs
 and-requires : tie.Need-and-requires Inv-loop μ-loop
 and-requires c κs = search needs
 
-add-set : tie.Need-add-set Inv-loop μ-loop
-add-set c = search needs
+add-way : tie.Need-add-way Inv-loop μ-loop
+add-way c = search needs
 
 loop-less : tie.Need-loop-less Inv-loop μ-loop
 loop-less c = search needs
@@ -54,11 +54,11 @@ all-ways-spec =
     Inv-loop
     μ-loop
     one-way-requires
-    sets-requires
+    ways-requires
     loop-holds
     one-way-requires-2
     and-requires
-    add-set
+    add-way
     loop-less
     loop-again
     same-length

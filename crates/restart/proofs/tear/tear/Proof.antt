@@ -1,24 +1,34 @@
-use borrow.Author.Needs.{needs}
+use native.Mathlib.Nat.{mod-le}
 use Prim.Native.Nat.{_≤_, _-_}
 use mathlib.Core.Path.{_≡_}
 use lib.ListN.{length}
+use borrow.Author.Needs.{needs}
 use Rattle.restart.proofs.tear.tear.Statement.{statement}
 use Rattle.restart.proofs.tear.tear.Tie as tie
 
 abbrev Inv-loop : tie.InvT-loop
-Inv-loop z c set flash₀ spare₀ pages bits₀ k₀ flash spare bits k = (k ≤ pages) × (pages ≤ 64) × (c ≤ 16) × (length flash ≡ length flash₀) × (length spare ≡ length spare₀)
+Inv-loop z page set flash₀ spare₀ count first bits₀ k₀ flash spare bits k = (k ≤ count) × (count ≤ 4) × (first ≤ 48) × (length flash ≡ length flash₀) × (length spare ≡ length spare₀)
 
 abbrev μ-loop : tie.MeasureT-loop
-μ-loop z c set flash₀ spare₀ pages bits₀ k₀ flash spare bits k = pages - k
+μ-loop z page set flash₀ spare₀ count first bits₀ k₀ flash spare bits k = count - k
 
 returns : tie.Need-returns Inv-loop μ-loop
 returns c = search needs
 
-at-most-64-requires : tie.Need-at-most-64-requires Inv-loop μ-loop
-at-most-64-requires c κs = search needs
+in-bucket-requires : tie.Need-in-bucket-requires Inv-loop μ-loop
+in-bucket-requires c κs = search needs
+
+rem-first : tie.Need-rem-first Inv-loop μ-loop
+rem-first c = search needs
+
+sub-first : tie.Need-sub-first Inv-loop μ-loop
+sub-first c = mod-le _ _
 
 loop-holds : tie.Need-loop-holds Inv-loop μ-loop
 loop-holds c = search needs
+
+add-tear-page : tie.Need-add-tear-page Inv-loop μ-loop
+add-tear-page c = search needs
 
 tear-page-requires : tie.Need-tear-page-requires Inv-loop μ-loop
 tear-page-requires c κs = search needs
@@ -48,8 +58,11 @@ tear-spec =
     Inv-loop
     μ-loop
     returns
-    at-most-64-requires
+    in-bucket-requires
+    rem-first
+    sub-first
     loop-holds
+    add-tear-page
     tear-page-requires
     add-k
     loop-less
