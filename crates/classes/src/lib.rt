@@ -39,10 +39,10 @@ fn is_spent(z: Sizes, c: usize, spare: &[u8]) -> bool
     requires { ⌜ c < body z ⌝ }
     ensures { λ r. ⌜ r ≡ isSpent z (spareOnly (now (spare .entry))) c ⌝ }
 {
-    if image::used(z, c, spare) {
+    if image::is_free(z, c, spare) {
         return false;
     }
-    !image::is_free(z, c, spare)
+    !image::used(z, c, spare)
 }
 
 fn is_a(z: Sizes, kind: Kind, c: usize, spare: &[u8]) -> bool

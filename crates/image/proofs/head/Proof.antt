@@ -1,5 +1,5 @@
 use native.Mathlib.Omega.{arith}
-use mathlib.Core.Path.{sym, ap, _∙_}
+use mathlib.Core.Path.{ap, _∙_}
 use borrow.Author.Tests.{eqb-true}
 use borrow.Author.Needs.{needs}
 use Rattle.model.specs.Spare.{spoiled, kind}
@@ -18,7 +18,7 @@ returns : tie.Need-returns
 unfolding spoiled
 returns c = let o = c .before .before .before .before in let a = o .args in let d = spareOnly (a .spare .now) in
     head-at (a .z) d (a .c) 0 (omega (arith, o .pre .0 .limits .p-low)) (λ i h. absurd (omega arith))
-        (λ e. absurd (c .if1 .taken (c .before .kind-at .ensures ∙ (ap kind (first-tag (a .z) d (a .c)) ∙ eqb-true _ 0 e))))
+    (λ e. absurd (c .if1 .taken (c .before .kind-at .ensures ∙ (ap kind (first-tag (a .z) d (a .c)) ∙ eqb-true _ 0 e))))
 
 head-behind-requires : tie.Need-head-behind-requires
 head-behind-requires c κs = search needs
