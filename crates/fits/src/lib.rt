@@ -4,7 +4,7 @@ use model::Sizes;
 use state::State;
 ghost use mathlib.Core.Path.{_≡_};
 ghost use mathlib.Core.Bool.{true};
-ghost use Prim.Native.Nat.{_*_, _<_};
+ghost use Prim.Native.Nat.{_*_, _<_, max};
 ghost use lib.Dec.{eqb};
 ghost use Rattle.lists.specs.Lists.{all, maxBelow};
 ghost use Rattle.model.specs.Sizes.{body};
@@ -120,8 +120,14 @@ fn epoch_there(z: Sizes, c: usize, spare: &[u8]) -> u32
     }
 }
 
-// The largest epoch of a bucket outside the ledger, or 0.
-fn body_top(z: Sizes, spare: &[u8]) -> u64
+fn larger(a: u64, b: u64) -> u64
+    ensures { λ r. ⌜ r ≡ max a b ⌝ }
+{
+    if a < b { b } else { a }
+}
+
+// The largest epoch of a bucket outside the ledger, or 0, by their heads.
+fn top_of_heads(z: Sizes, spare: &[u8]) -> u64
     requires { ⌜ Chip z (now spare) ⌝ }
     requires { ⌜ Headed z (spareOnly (now spare)) ⌝ }
     ensures { λ r. ⌜ r ≡ maxBelow (body z) (epochOf z (spareOnly (now (spare .entry)))) ⌝ }
@@ -131,10 +137,32 @@ fn body_top(z: Sizes, spare: &[u8]) -> u64
     let mut c = 0;
     while c < end {
         let epoch = epoch_there(z, c, spare) as u64;
+        top = larger(top, epoch);
         c += 1;
-        if top < epoch {
-            top = epoch;
+    }
+    top
+}
+
+// The same by first pages alone, which are the heads while none is spoiled. To ask each bucket for its head takes longer.
+fn body_top(z: Sizes, spare: &[u8]) -> u64
+    requires { ⌜ Chip z (now spare) ⌝ }
+    requires { ⌜ Headed z (spareOnly (now spare)) ⌝ }
+    ensures { λ r. ⌜ r ≡ maxBelow (body z) (epochOf z (spareOnly (now (spare .entry)))) ⌝ }
+{
+    let end = geometry::body(z);
+    let mut top = 0;
+    let mut c = 0;
+    while c < end {
+        let page = c * z.p;
+        let kind = spare::kind_at(spare, page);
+        if kind != spare::NO_KIND {
+            if kind == spare::SPOILED_KIND {
+                return top_of_heads(z, spare);
+            }
+            let epoch = spare::epoch_at(spare, page) as u64;
+            top = larger(top, epoch);
         }
+        c += 1;
     }
     top
 }
@@ -148,9 +176,10 @@ pub fn top_epoch(z: Sizes, spare: &[u8]) -> u64
 {
     let buckets = body_top(z, spare);
     let entries = ledger::top_entry(z, spare);
-    if buckets < entries { entries } else { buckets }
+    larger(buckets, entries)
 }
 
+// A complete copy has its first page as its head.
 fn read_agrees(e: Entry, z: Sizes, spare: &[u8]) -> bool
     requires { ⌜ Chip z (now spare) ⌝ }
     requires { ⌜ e .cache < z .c ⌝ }
@@ -159,9 +188,10 @@ fn read_agrees(e: Entry, z: Sizes, spare: &[u8]) -> bool
 {
     let c = e.cache as usize;
     let whole = image::complete(z, c, spare);
-    whole & (image::back_of(z, c, spare) == e.back)
+    whole & (spare::back_at(spare, c * z.p) == e.back)
 }
 
+// The head is looked for once: with that code more often the compiler does not take the loop over a queue into its caller, and copies the queue.
 fn write_agrees(e: Entry, z: Sizes, spare: &[u8]) -> bool
     requires { ⌜ Chip z (now spare) ⌝ }
     requires { ⌜ e .cache < z .c ⌝ }
@@ -169,8 +199,10 @@ fn write_agrees(e: Entry, z: Sizes, spare: &[u8]) -> bool
     ensures { λ r. ⌜ r ≡ writeAgrees z (spareOnly (now (spare .entry))) e ⌝ }
 {
     let c = e.cache as usize;
-    let write = image::is_write(z, c, spare);
-    let back = image::back_of(z, c, spare) == e.back;
+    let k = image::head(z, c, spare);
+    let page = c * z.p + k;
+    let write = spare::kind_at(spare, page) == model::WRITE_KIND;
+    let back = spare::back_at(spare, page) == e.back;
     let count = image::has_blanks(z, c, e.blank as usize, spare);
     write & back & (e.priority as usize <= z.p) & count
 }

@@ -5,6 +5,7 @@ use mathlib.Core.Logic.{_⊎_, inl, inr}
 use mathlib.Core.Bool.{true, not, _&&_, true≢false}
 use native.Mathlib.Omega.{arith}
 use borrow.Author.Tests.{eqb-true, eq-eqb}
+use lib.Dec.{eqb}
 use Rattle.lists.specs.Lists.{allBelow}
 use Rattle.lists.proofs.Rows.{all-below, below-all}
 use Rattle.lists.proofs.Tests.{and-left, and-right, and-true, same-truth}
@@ -17,6 +18,7 @@ use Rattle.model.proofs.Limits.{Limits, pages-whole}
 use Rattle.model.proofs.Tags.{programmed-real}
 use Rattle.model.proofs.Rules.{Fields, Goes, begins, goes-on}
 use Rattle.model.proofs.Formed.{page-ruled, page-fields, kind-shared}
+use Rattle.model.proofs.Heads.{head-first}
 
 module _ (z : Sizes) (d : Device) (c : ℕ) (limits : Limits z) (fit : bucketFits z d c ≡ true) where
   module _ (other : kind (headTag z d c) ≡ writeKind → ⊥) where
@@ -54,7 +56,7 @@ module _ (z : Sizes) (d : Device) (c : ℕ) (limits : Limits z) (fit : bucketFit
       go (begins b w) more = absurd (omega arith)
       go (goes-on j e q b u m f l) more = let i : j ≡ k + n = omega arith in more (rw i at q) (omega (arith, rw i at b))
 
-  pub complete-ends : complete z d c ≡ (isCopy z d c && endsLog z d c (z .p - 1))
+  complete-ends : complete z d c ≡ (isCopy z d c && endsLog z d c (z .p - 1))
   unfolding complete isCopy used pageProgrammed endsLog
   complete-ends = same-truth _ _
       (λ h. let copy = and-left (isCopy z d c) _ h in and-true copy (forth (no-write copy) (all-below (z .p) (pageProgrammed z d c) (and-right (isCopy z d c) _ h))))
@@ -79,3 +81,16 @@ module _ (z : Sizes) (d : Device) (c : ℕ) (limits : Limits z) (fit : bucketFit
           below-all (z .p) (pageProgrammed z d c) (λ k hk.
           let e : k + (z .p - 1 - k) ≡ z .p - 1 = omega arith in
           backwards (z .p - 1 - k) k (omega arith) (rw e p) (rw e (omega (arith, o, n))))
+
+  -- it has its first page as its head
+  pub complete-head : complete z d c ≡ true → headTag z d c ≡ tagOf z d c 0
+  unfolding complete pageProgrammed
+  complete-head h = head-first z d c (programmed-real (tagOf z d c 0) (all-below (z .p) (pageProgrammed z d c) (and-right (isCopy z d c) _ h) 0 (limits .p-low)) .1)
+
+  -- so that page tells, and the last one
+  pub complete-first : complete z d c ≡ (programmed (tagOf z d c 0) && not (eqb (kind (tagOf z d c 0)) writeKind)) && endsLog z d c (z .p - 1)
+  unfolding isCopy used
+  complete-first = same-truth _ _
+      (λ h. rw (complete-head h) at (sym complete-ends ∙ h))
+      (λ h. let p = and-left (programmed (tagOf z d c 0)) _ (and-left (programmed (tagOf z d c 0) && not (eqb (kind (tagOf z d c 0)) writeKind)) _ h) in
+      complete-ends ∙ rw (head-first z d c (programmed-real (tagOf z d c 0) p .1)) h)

@@ -2,7 +2,7 @@
 use Prim.Native.Nat.{ℕ, _+_, _-_, _*_, _≤_, _<_}
 use mathlib.Core.Path.{_≡_, refl, sym, ap, _∙_}
 use mathlib.Core.Logic.{_⊎_, inl, inr}
-use mathlib.Core.Bool.{Bool, true, false, not, _&&_}
+use mathlib.Core.Bool.{Bool, true, false, not, _&&_, and-true}
 use mathlib.Core.List.{List}
 use native.Mathlib.Nat.{add-zero}
 use native.Mathlib.Omega.{arith}
@@ -15,11 +15,11 @@ use Rattle.lists.proofs.Rows.{all-below}
 use Rattle.lists.proofs.Tests.{and-left, and-false}
 use Rattle.model.specs.declared.Sizes.{Sizes}
 use Rattle.model.specs.Sizes.{Device, pageIndex, body}
-use Rattle.model.specs.Spare.{blank, spoiled, programmed, kind}
+use Rattle.model.specs.Spare.{blank, spoiled, programmed, kind, epoch}
 use Rattle.model.specs.Stores.{tagOf}
-use Rattle.model.specs.Image.{bucketFits, headTag, bodyFits, blanks}
-use Rattle.model.proofs.Formed.{page-fields, blank-from}
-use Rattle.model.proofs.Heads.{HeadPage, head-page}
+use Rattle.model.specs.Image.{bucketFits, headTag, used, epochOf, bodyFits, blanks}
+use Rattle.model.proofs.Formed.{page-fields, blank-from, epoch-used}
+use Rattle.model.proofs.Heads.{HeadPage, head-page, head-first}
 use Rattle.model.proofs.Tags.{kind-real, unprogrammed}
 use Rattle.spare.proofs.Looked.{kind-erased}
 use Rattle.image.specs.Chip.{Chip, Headed, HeadAt}
@@ -79,6 +79,26 @@ kind-blank z d c k fit h = go (blank (tagOf z d c k)) (programmed (tagOf z d c k
 -- and so is its head
 pub head-blank : (z : Sizes) (d : Device) (c : ℕ) → 1 ≤ z .p → bucketFits z d c ≡ true → blank (headTag z d c) ≡ eqb (kind (headTag z d c)) 255
 head-blank z d c p-low fit = let h = head-page z p-low d c in rw (h .is) (kind-blank z d c (h .page) fit (h .inside))
+
+-- while a first page is not spoiled it is the head
+head-is-first : (z : Sizes) (d : Device) (c : ℕ) → (kind (tagOf z d c 0) ≡ 0 → ⊥) → headTag z d c ≡ tagOf z d c 0
+unfolding spoiled
+head-is-first z d c real = head-first z d c (ne-eqb (kind (tagOf z d c 0)) 0 real)
+
+-- and its kind tells whether the bucket is used
+pub used-first : (z : Sizes) (d : Device) (c : ℕ) → blank (headTag z d c) ≡ eqb (kind (headTag z d c)) 255 → (kind (tagOf z d c 0) ≡ 0 → ⊥) → used z d c ≡ not (eqb (kind (tagOf z d c 0)) 255)
+unfolding used programmed spoiled
+used-first z d c blank-is real = rw (blank-is, head-is-first z d c real, ne-eqb (kind (tagOf z d c 0)) 0 real) (and-true (not (eqb (kind (tagOf z d c 0)) 255)))
+
+module _ (z : Sizes) (d : Device) (c : ℕ) (blank-is : blank (headTag z d c) ≡ eqb (kind (headTag z d c)) 255) where
+  -- one with a kind also tells the epoch
+  pub first-used : (kind (tagOf z d c 0) ≡ 255 → ⊥) → (kind (tagOf z d c 0) ≡ 0 → ⊥) → (used z d c ≡ true) × (epochOf z d c ≡ epoch (tagOf z d c 0))
+  first-used has real =
+      let u : used z d c ≡ true = used-first z d c blank-is real ∙ ap not (ne-eqb (kind (tagOf z d c 0)) 255 has) in
+      (u, epoch-used z d c u ∙ ap epoch (head-is-first z d c real))
+
+  pub first-unused : kind (tagOf z d c 0) ≡ 255 → used z d c ≡ false
+  first-unused none = used-first z d c blank-is (λ e. omega arith) ∙ ap not (eq-eqb (kind (tagOf z d c 0)) 255 none)
 
 pub formed-bucket : (z : Sizes) (d : Device) → bodyFits z d ≡ true → (c : ℕ) → c < body z → bucketFits z d c ≡ true
 unfolding bodyFits

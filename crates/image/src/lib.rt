@@ -76,13 +76,17 @@ pub fn page_programmed(z: Sizes, c: usize, k: usize, spare: &[u8]) -> bool
     kind != spare::SPOILED_KIND
 }
 
-// In a bucket that fits a page is blank if it has no kind.
+// In a bucket that fits a page is blank if it has no kind. Most often the first page tells, and the head is not looked for: that is quicker.
 pub fn used(z: Sizes, c: usize, spare: &[u8]) -> bool
     requires { ⌜ Chip z (now spare) ⌝ }
     requires { ⌜ c < z .c ⌝ }
     requires { ⌜ bucketFits z (spareOnly (now spare)) c ≡ true ⌝ }
     ensures { λ r. ⌜ r ≡ used z (spareOnly (now (spare .entry))) c ⌝ }
 {
+    let first = spare::kind_at(spare, c * z.p);
+    if first != spare::SPOILED_KIND {
+        return first != spare::NO_KIND;
+    }
     let kind = head_kind(z, c, spare);
     (kind != spare::NO_KIND) & (kind != spare::SPOILED_KIND)
 }
@@ -181,15 +185,17 @@ pub fn ends_log(z: Sizes, c: usize, k: usize, spare: &[u8]) -> bool
     spare::ends_at(spare, c * z.p + k)
 }
 
-// A Read or Dirty bucket with all its pages programmed. It is one log, so they are so where its last page ends that log.
+// A Read or Dirty bucket with all its pages programmed. It is one log, so they are so where its last page ends that log. Its first page
+// is its head then.
 pub fn complete(z: Sizes, c: usize, spare: &[u8]) -> bool
     requires { ⌜ Chip z (now spare) ⌝ }
     requires { ⌜ c < z .c ⌝ }
     requires { ⌜ bucketFits z (spareOnly (now spare)) c ≡ true ⌝ }
     ensures { λ r. ⌜ r ≡ complete z (spareOnly (now (spare .entry))) c ⌝ }
 {
-    let copy = is_copy(z, c, spare);
-    copy & ends_log(z, c, z.p - 1, spare)
+    let kind = spare::kind_at(spare, c * z.p);
+    let real = (kind != spare::NO_KIND) & (kind != spare::SPOILED_KIND);
+    real & (kind != model::WRITE_KIND) & ends_log(z, c, z.p - 1, spare)
 }
 
 // How many pages of a bucket that fits are not blank: those before the first that has no kind.

@@ -1,4 +1,5 @@
 pub mod Buckets
+pub mod Epochs
 pub mod Halves
 pub mod Later
 pub mod Page

@@ -360,14 +360,23 @@ fn pages_fit(z: Sizes, c: usize, spare: &[u8]) -> bool
     true
 }
 
-// Most buckets are pages that fit, each behind the one before it, and then blank ones. Of any other each page is looked at by itself.
+// Most buckets are pages that fit, each behind the one before it, and then blank ones.
+fn plainly_fits(z: Sizes, c: usize, spare: &[u8]) -> bool
+    requires { ⌜ Chip z (now spare) ⌝ }
+    requires { ⌜ c < z .c ⌝ }
+    ensures { λ r. ⌜ (r ≡ true → bucketFits z (spareOnly (now (spare .entry))) c ≡ true) ⌝ }
+{
+    let n = fitting(z, c, spare);
+    spare::are_blank(spare, c * z.p + n, z.p - n)
+}
+
+// Of any other bucket each page is looked at by itself.
 pub fn bucket_fits(z: Sizes, c: usize, spare: &[u8]) -> bool
     requires { ⌜ Chip z (now spare) ⌝ }
     requires { ⌜ c < z .c ⌝ }
     ensures { λ r. ⌜ r ≡ bucketFits z (spareOnly (now (spare .entry))) c ⌝ }
 {
-    let n = fitting(z, c, spare);
-    if spare::are_blank(spare, c * z.p + n, z.p - n) {
+    if plainly_fits(z, c, spare) {
         return true;
     }
     pages_fit(z, c, spare)
@@ -400,14 +409,18 @@ fn span_end(z: Sizes, c: usize, spare: &[u8]) -> usize
     if e == c { c + 1 } else { e }
 }
 
-// Several buckets with no kind are tested at once: all their pages must be blank.
+// Several buckets with no kind are tested at once: all their pages must be blank. One by itself is tested as in `bucket_fits`, which is not
+// called: the quick test then has two callers and stays a function by itself, not slowed by the code of the other.
 fn span_fits(z: Sizes, c: usize, e: usize, spare: &[u8]) -> bool
     requires { ⌜ Chip z (now spare) ⌝ }
     requires { ⌜ Span z (spareOnly (now spare)) c e ⌝ }
     ensures { λ r. ⌜ r ≡ allBelow (e - c) (fitsFrom z (spareOnly (now (spare .entry))) c) ⌝ }
 {
     if e == c + 1 {
-        return bucket_fits(z, c, spare);
+        if plainly_fits(z, c, spare) {
+            return true;
+        }
+        return pages_fit(z, c, spare);
     }
     spare::are_blank(spare, c * z.p, (e - c) * z.p)
 }
@@ -493,8 +506,8 @@ pub fn all_differ(items: &[u32]) -> bool
     true
 }
 
-// No two buckets share an epoch: those of the used buckets are gathered, and compared.
-fn epochs_differ(z: Sizes, spare: &[u8]) -> bool
+// No two buckets share an epoch: those of the used buckets are gathered by their heads, and compared.
+fn head_epochs_differ(z: Sizes, spare: &[u8]) -> bool
     requires { ⌜ Chip z (now spare) ⌝ }
     requires { ⌜ allBelow (body z) (bucketFits z (spareOnly (now spare))) ≡ true ⌝ }
     ensures { λ r. ⌜ r ≡ distinct (map (epochOf z (spareOnly (now (spare .entry)))) (keep (used z (spareOnly (now (spare .entry)))) (below (body z)))) ⌝ }
@@ -506,6 +519,31 @@ fn epochs_differ(z: Sizes, spare: &[u8]) -> bool
     while c < end {
         if image::used(z, c, spare) {
             epochs[n] = image::used_epoch(z, c, spare);
+            n += 1;
+        }
+        c += 1;
+    }
+    all_differ(&epochs[..n])
+}
+
+// The same by first pages alone, which are the heads while none is spoiled. To ask each bucket for its head takes longer.
+fn epochs_differ(z: Sizes, spare: &[u8]) -> bool
+    requires { ⌜ Chip z (now spare) ⌝ }
+    requires { ⌜ allBelow (body z) (bucketFits z (spareOnly (now spare))) ≡ true ⌝ }
+    ensures { λ r. ⌜ r ≡ distinct (map (epochOf z (spareOnly (now (spare .entry)))) (keep (used z (spareOnly (now (spare .entry)))) (below (body z)))) ⌝ }
+{
+    let end = geometry::body(z);
+    let mut epochs = [0u32; 256];
+    let mut n = 0;
+    let mut c = 0;
+    while c < end {
+        let page = c * z.p;
+        let kind = spare::kind_at(spare, page);
+        if kind != spare::NO_KIND {
+            if kind == spare::SPOILED_KIND {
+                return head_epochs_differ(z, spare);
+            }
+            epochs[n] = spare::epoch_at(spare, page);
             n += 1;
         }
         c += 1;

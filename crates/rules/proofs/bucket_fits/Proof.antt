@@ -1,29 +1,13 @@
-use native.Mathlib.Omega.{arith}
-use mathlib.Core.Path.{sym, _∙_}
-use Rattle.rules.proofs.Buckets.{fitting-fits}
-use Rattle.image.proofs.Place.{bucket-inside}
+use mathlib.Core.Path.{sym}
 use borrow.Author.Needs.{needs}
 use Rattle.rules.proofs.bucket_fits.Statement.{statement}
 use Rattle.rules.proofs.bucket_fits.Tie as tie
 
-fitting-requires : tie.Need-fitting-requires
-fitting-requires c κs = search needs
-
-mul-are-blank : tie.Need-mul-are-blank
-mul-are-blank c = let s = c .before .before .before in omega (arith, bucket-inside (s .pre .0) (s .args .c) (s .pre .1))
-
-add-are-blank : tie.Need-add-are-blank
-add-are-blank c = let s = c .before .before .before in omega (arith, bucket-inside (s .pre .0) (s .args .c) (s .pre .1), c .before .fitting .ensures .0)
-
-sub-are-blank : tie.Need-sub-are-blank
-sub-are-blank c = search needs
-
-are-blank-requires : tie.Need-are-blank-requires
-are-blank-requires c κs = let s = c .before .before .before .before in omega (arith, bucket-inside (s .pre .0) (s .args .c) (s .pre .1), c .before .before .fitting .ensures .0)
+plainly-fits-requires : tie.Need-plainly-fits-requires
+plainly-fits-requires c κs = search needs
 
 returns : tie.Need-returns
-returns c = let a = c .before .before .before .before .before .before .args in let f = c .before .before .before .before .fitting in
-    sym (fitting-fits (a .z) (a .spare .now) (a .c) (f .result) (f .ensures) (sym (c .before .are-blank .ensures) ∙ c .if1 .taken))
+returns c = sym (c .before .plainly-fits .ensures (c .if1 .taken))
 
 pages-fit-requires : tie.Need-pages-fit-requires
 pages-fit-requires c κs = search needs
@@ -32,14 +16,4 @@ returns-2 : tie.Need-returns-2
 returns-2 c = search needs
 
 pub bucket-fits-spec : {M : Type 1} → statement M
-bucket-fits-spec =
-    tie.close
-    (tie.spec
-    fitting-requires
-    mul-are-blank
-    add-are-blank
-    sub-are-blank
-    are-blank-requires
-    returns
-    pages-fit-requires
-    returns-2)
+bucket-fits-spec = tie.close (tie.spec plainly-fits-requires returns pages-fit-requires returns-2)
