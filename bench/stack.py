@@ -26,7 +26,12 @@ ENTRIES = {
     "write": "write::write(begun.state, b, offset, bytes, allowance, flash, spare, disk)",
     "drain": "drain::drain(begun.state, allowance, flash, spare, disk)",
     "recover": "recover::recover(begun.state, z, allowance, flash, spare, disk)",
+    "read_text": "receive::read_text(z, bytes, flash, spare)",
+    "write_text": "send::write_text(z, flash, spare, bytes)",
 }
+
+# What is made of an entry's outcome, so that the call stays.
+RESULTS = {"read_text": "match o { model::Answer::Done => 0, _ => 1 }", "write_text": "o.length"}
 
 CALLER = """
 #[no_mangle]
@@ -43,7 +48,7 @@ pub extern "C" fn {name}(
     let z = model::Sizes {{ s: z[0], p: z[1], c: z[2], b: z[3], r: z[4], w: z[5] }};
     let begun = format::format(state::State::unformatted(), z, allowance, flash, spare, disk);
     let o = {call};
-    o.stores
+    {result}
 }}
 """
 
@@ -57,7 +62,7 @@ Instruction = collections.namedtuple("Instruction", "place name operands symbol"
 
 def build(folder):
     """The library of the callers, over the repository's crates as they are proved there."""
-    rt("check", "calls", folder=ROOT)
+    rt("check", "calls", "receive", "send", folder=ROOT)
     os.makedirs(os.path.join(folder, "crates", "entries", "src"))
     os.makedirs(os.path.join(folder, "target"))
     crates = [os.path.join("crates", name) for name in os.listdir(os.path.join(ROOT, "crates"))]
@@ -66,7 +71,7 @@ def build(folder):
     with open(os.path.join(ROOT, "crates.txt"), encoding="utf-8") as file:
         listed = file.read()
     write(os.path.join(folder, "crates.txt"), f"{listed}\nentries: format erasestep read write drain recover "
-                                              "outcome state queue fifo model lists\n")
+                                              "receive send outcome state queue fifo model lists\n")
     write(os.path.join(folder, "crates", "entries", "src", "lib.rt"), callers())
     rt("staticlib", "entries", folder=folder)
     return os.path.join(folder, "target", "staticlib", "libentries.a")
@@ -87,7 +92,7 @@ def write(path, text):
 
 def callers():
     """Two callers of each entry."""
-    return "".join(CALLER.format(name=f"{which}_{entry}", call=call)
+    return "".join(CALLER.format(name=f"{which}_{entry}", call=call, result=RESULTS.get(entry, "o.stores"))
                    for entry, call in ENTRIES.items() for which in ("one", "other"))
 
 

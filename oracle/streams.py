@@ -1,5 +1,5 @@
 #!/usr/bin/env python3
-"""Runs the driving program on long, slow and failing streams.
+"""Runs the driving program, or with --rewrite the rewriting one, on long, slow and failing streams.
 
 What it prints of an input of more than a megabyte, whose last line lacks its line feed, is
 compared with the independent engine's output, however the input comes and the output goes.
@@ -8,6 +8,7 @@ Where a stream fails the program must say so, and what it wrote must be the star
 
 import argparse
 import os
+import random
 import resource
 import signal
 import socket
@@ -18,6 +19,8 @@ import threading
 import time
 
 from inputs.driving import KINDS, make_input
+from inputs.image_text import line_for
+from inputs.rewriting import LARGE, sizes_line
 
 MEGABYTE = 1 << 20
 PIECE = 65536  # what the program reads at most in one call
@@ -33,6 +36,13 @@ def long_input(seed):
             text += make_input(seed, kind, index, 1000).rstrip(b"\n") + b"\n"
         index += 1
     return text + b"01FFFF03F004000800040203\n" + b"02FFFF000000000FC0\n" * 100 + b"06FFFF"
+
+
+def long_text(seed):
+    """A whole chip of 1,024 bytes a page, its pages falling; no line feed at the end."""
+    rng, z = random.Random(seed), LARGE[1]
+    pages = reversed(range(z.C * z.P))
+    return "\n".join([sizes_line(z), *(line_for(rng, z, page) for page in pages)]).encode()
 
 
 def feed(fd, text):
@@ -56,10 +66,12 @@ def limit_files():
 
 
 class Streams:
-    def __init__(self, oracle, program, text):
+    def __init__(self, oracle, program, text, broken_off):
         self.oracle = oracle
         self.program = program
+        self.name = os.path.basename(program).encode()
         self.text = text
+        self.broken_off = broken_off  # what is written of "06FFFF\n06FFFF" where the input then fails
         self.expected = self.answer(text)
         self.failed = 0
 
@@ -70,6 +82,12 @@ class Streams:
     def answer(self, text):
         """The independent engine's output."""
         return subprocess.run([self.oracle], input=text, stdout=subprocess.PIPE, check=True).stdout
+
+    def answers(self, text):
+        """The same, and what is said beside it: a refusal of the rewriting program, its only line."""
+        answer = self.answer(text)
+        refused = self.name == b"rewrite" and len(answer) == 7
+        return answer, b"rewrite: refused: " + answer if refused else b""
 
     def start(self, **streams):
         """The program, its input in a file unless told otherwise. A closed pipe is an error to it, no signal."""
@@ -88,7 +106,7 @@ class Streams:
         for size in (0, 1, PIECE - 1, PIECE, PIECE + 1):
             text = self.text[:size].rstrip(b"\n")
             done = self.start(stdin=subprocess.PIPE).communicate(text)
-            self.check(f"{len(text)} bytes", done == (self.answer(text), b""))
+            self.check(f"{len(text)} bytes", done == self.answers(text))
 
     def slow_input(self, blocking):
         out, into = os.pipe()
@@ -114,12 +132,12 @@ class Streams:
     def failing_output(self):
         with open("/dev/full", "wb") as device:
             complaint = self.run(stdout=device)[1]
-        self.check("a full disk", complaint == b"tugmerov: standard output: No space left on device\n")
+        self.check("a full disk", complaint == self.name + b": standard output: No space left on device\n")
         with tempfile.TemporaryFile() as file:
             complaint = self.run(stdout=file, preexec_fn=limit_files)[1]
             file.seek(0)
             self.check("a file that may not grow on", file.read() == self.expected[:FILE_LIMIT]
-                       and complaint == b"tugmerov: standard output: File too large\n")
+                       and complaint == self.name + b": standard output: File too large\n")
         out, into = os.pipe()
         program = self.start(stdout=into)
         os.close(into)
@@ -127,33 +145,35 @@ class Streams:
         os.close(out)
         complaint = program.communicate()[1]
         self.check("a reader that goes away", self.expected.startswith(text)
-                   and complaint == b"tugmerov: standard output: Broken pipe\n")
+                   and complaint == self.name + b": standard output: Broken pipe\n")
 
     def failing_input(self):
         folder = os.open(".", os.O_RDONLY)
         self.check("a folder as the input", self.run(stdin=folder)
-                   == (b"", b"tugmerov: standard input: Is a directory\n"))
+                   == (b"", self.name + b": standard input: Is a directory\n"))
         os.close(folder)
         self.check("no input at all", self.run(preexec_fn=lambda: os.close(0))
-                   == (b"", b"tugmerov: standard input: Bad file descriptor\n"))
+                   == (b"", self.name + b": standard input: Bad file descriptor\n"))
         # A peer that leaves with something unread resets the connection, once all that it sent is read.
         ours, theirs = socket.socketpair()
         ours.send(b"unread")
         theirs.send(b"06FFFF\n06FFFF")
         theirs.close()
         self.check("an input that breaks off within a line", self.run(stdin=ours)
-                   == (b"030000\n", b"tugmerov: standard input: Connection reset by peer\n"))
+                   == (self.broken_off, self.name + b": standard input: Connection reset by peer\n"))
         ours.close()
 
 
 def main():
     parser = argparse.ArgumentParser(description=__doc__)
-    parser.add_argument("--oracle", required=True, metavar="BIN", help="the independent engine's driving program")
-    parser.add_argument("--program", required=True, metavar="BIN", help="the driving program")
+    parser.add_argument("--oracle", required=True, metavar="BIN", help="the independent engine's program")
+    parser.add_argument("--program", required=True, metavar="BIN", help="the program")
+    parser.add_argument("--rewrite", action="store_true", help="the programs rewrite texts")
     parser.add_argument("--seed", default="1", help="any text; the same seed gives the same input")
     options = parser.parse_args()
     signal.alarm(SECONDS)
-    streams = Streams(os.path.abspath(options.oracle), os.path.abspath(options.program), long_input(options.seed))
+    text, broken_off = (long_text(options.seed), b"") if options.rewrite else (long_input(options.seed), b"030000\n")
+    streams = Streams(os.path.abspath(options.oracle), os.path.abspath(options.program), text, broken_off)
     streams.whole()
     streams.slow_input(blocking=True)
     streams.slow_input(blocking=False)

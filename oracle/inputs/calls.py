@@ -23,17 +23,21 @@ def queued(z):
     return z.C - 2
 
 
+def within_limits(z):
+    return (4 <= z.S <= 1024 and 1 <= z.P <= 64 and 3 <= z.C <= 256 and 1 <= z.B <= 65535
+            and 1 <= z.R <= 64 and 1 <= z.W <= 64 and z.R + z.W + 3 <= z.C)
+
+
 def fits(z):
     """Whether the sizes keep every limit and the program's buffers."""
-    return (4 <= z.S <= 1024 and 1 <= z.P <= 64 and 3 <= z.C <= 256 and 1 <= z.B <= 65535
-            and 1 <= z.R <= 64 and 1 <= z.W <= 64 and z.R + z.W + 3 <= z.C
-            and z.C * z.P * (z.S + SPARE_BYTES) <= FLASH_BYTES and z.B * z.P * z.S <= DISK_BYTES)
+    return (within_limits(z) and z.C * z.P * (z.S + SPARE_BYTES) <= FLASH_BYTES
+            and z.B * z.P * z.S <= DISK_BYTES)
 
 
-def fitting(sizes, rng):
+def fitting(sizes, rng, fit=fits):
     """Sizes that fit, from a maker of any."""
     z = sizes(rng)
-    while not fits(z):
+    while not fit(z):
         z = sizes(rng)
     return z
 

@@ -4,7 +4,8 @@ from inputs.calls import PLENTY, Sizes, fitting, small_sizes, tiny_sizes
 from inputs.forge import forge_pages, forge_state, tied
 from inputs.images import any_logs, fill, made_up, odd_blanks, queue_up, some_epochs, tear_named
 from inputs.lists import honest_situation, recovery
-from inputs.probes import ON_CHIP, RUNNING, call, good_call, page_look, show_all, show_something, some_units, write
+from inputs.probes import (BESIDES, ON_CHIP, RUNNING, call, good_call, page_look, show_all, show_something, some_units,
+                           write)
 from inputs.rich import any_copy, rich_sizes
 from inputs.situation import format_line, formatted, show_page
 
@@ -64,7 +65,7 @@ def state(rng, ask):
     if rng.random() < 0.1:
         return other_sizes(rng)
     before, situation = honest_situation(rng, ask)
-    return changed(rng, before, situation, forge_state, ON_CHIP + (0x16,))
+    return changed(rng, before, situation, forge_state, ON_CHIP + BESIDES)
 
 
 def other_sizes(rng):

@@ -13,6 +13,7 @@ SPARE = [("kind", 1), ("ordinal", 1), ("pages", 1), ("zero", 1), ("epoch", 4), (
          ("zeros", 2), ("offset", 2), ("length", 2)]
 SPARE_DIGITS = 32
 BLANK = "FF" * 16
+OTHERS = " gG/:@`xX\r\t\0\x7f\x80\xff-+"  # characters that are no digits
 SPOILED = 0  # the state of a page whose program stopped halfway: its other bytes mean nothing
 
 

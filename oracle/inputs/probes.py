@@ -1,13 +1,16 @@
-"""Lines of the workbench that try a situation: calls, page looks, lines that show something."""
+"""Lines of the workbench that try a situation: calls, page looks, texts, lines that show something."""
 
 from inputs.calls import PLENTY
 from inputs.form import number
+from inputs.image_text import any_line
 from inputs.situation import format_line, show_page
 
-# The four that need a running state, those that look at the chip, and those that are lent something.
+# The four that need a running state, those that look at the chip, page look and texts, and all that are lent something.
 RUNNING = (0x02, 0x03, 0x04, 0x05)
 ON_CHIP = RUNNING + (0x06,)
-LENDING = (0x01,) + ON_CHIP + (0x16,)
+BESIDES = (0x16, 0x30, 0x31)
+LENDING = (0x01,) + ON_CHIP + BESIDES
+MOST_TEXT = 131072
 
 
 def call(op, allowance, rest=""):
@@ -24,6 +27,14 @@ def write(back_end, offset, data, allowance=PLENTY):
 
 def page_look(bucket, page):
     return f"16{bucket:04X}{page:02X}"
+
+
+def write_text(room=MOST_TEXT):
+    return "30" + number(room, 4)
+
+
+def read_text(text):
+    return "31" + text.encode("latin-1").hex().upper()
 
 
 def show_unit(back_end, unit):
@@ -44,11 +55,13 @@ def lend_less(data, spare, disk):
 
 
 def good_call(rng, z, op, allowance, wanted=()):
-    """A call with fields that are never refused, often of a back-end bucket that is wanted."""
+    """A call with fields that are never refused, often of a back-end bucket that is wanted. A text is refused, by its
+    last line: the chip stays."""
     if op == 0x01:
         return format_line(z, allowance)
-    if op == 0x16:
-        return page_look(rng.randrange(z.C), rng.randrange(z.P))
+    if op in BESIDES:
+        return {0x16: page_look(rng.randrange(z.C), rng.randrange(z.P)), 0x30: write_text(),
+                0x31: read_text(any_line(rng, z) + "\n\n")}[op]
     if op not in (0x02, 0x03):
         return call(op, allowance)
     back_end = rng.choice(wanted) if wanted and rng.random() < 0.5 else rng.randrange(z.B)
@@ -60,13 +73,14 @@ def good_call(rng, z, op, allowance, wanted=()):
 
 
 def show_something(rng, z):
-    """The state, or a page or unit; now and then one that is not there."""
+    """The state, the chip, or a page or unit; now and then one that is not there."""
     bucket, back_end, page = rng.randrange(z.C), rng.randrange(z.B), rng.randrange(z.P)
     if rng.random() < 0.05:
         bucket, back_end = rng.choice([(z.C, z.B), (0xFFFF, 0xFFFF)])
     if rng.random() < 0.05:
         page = rng.choice([z.P, 255])
-    return rng.choice(["11", "11", show_page(bucket, page), show_unit(back_end, page), page_look(bucket, page)])
+    return rng.choice(["11", "11", show_page(bucket, page), show_unit(back_end, page), page_look(bucket, page),
+                       write_text()])
 
 
 def show_all(z):

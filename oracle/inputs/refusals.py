@@ -3,8 +3,10 @@
 from functools import partial
 
 from inputs.calls import FULL, SPARE_BYTES, Sizes
+from inputs.image_text import any_line
 from inputs.images import EPOCH_END, mark_some
-from inputs.probes import LENDING, good_call, lend_less, page_look, read, write
+from inputs.probes import (BESIDES, LENDING, MOST_TEXT, good_call, lend_less, page_look, read, read_text, write,
+                           write_text)
 from inputs.situation import format_line
 
 ROOMY = Sizes(4, 1, 200, 1, 1, 1)
@@ -20,7 +22,7 @@ def by_limit(z, rng, rich):
     """Sizes about a limit, in the state and in a format."""
     forged = rich.situation.copy()
     forged.state.values.update(z._asdict())
-    op = rng.choice([0x02, 0x03, 0x04, 0x05, 0x16])
+    op = rng.choice([0x02, 0x03, 0x04, 0x05, *BESIDES])
     return [*rich.situation.lines_to(forged), good_call(rng, forged.sizes, op, 0), format_line(z, 0),
             *forged.lines_to(rich.situation)]
 
@@ -73,7 +75,7 @@ LENGTHS = [partial(by_length, op, buffer, bytes_of) for op in LENDING for buffer
 
 def several(rng, rich):
     """Reasons for several numbers at once; the first one counts."""
-    numbers = set(rng.sample(range(1, 9), rng.randint(1, 4)))
+    numbers = set(rng.sample(range(1, 11), rng.randint(1, 4)))
     forged = rich.situation.copy()
     spoil(rng, rich, forged, numbers)
     lines = rich.situation.lines_to(forged)
@@ -102,13 +104,18 @@ def spoil(rng, rich, s, numbers):
 
 
 def faulty_call(rng, z, numbers):
-    """A call, most often a read or write, with the fields that numbers 1, 6 and 7 turn down, as asked."""
+    """A call, most often a read or write, with the fields that numbers 1, 6 and 7 turn down, as asked; or a text or a
+    buffer for one."""
     op = rng.choice([0x02, 0x03, 0x02, 0x03, *LENDING])
     if op == 0x01:
         return format_line(z._replace(P=0) if 1 in numbers else z, 0)
     if op == 0x16:
         beyond = [(z.C, 0), (0, z.P), (z.C, z.P), (65535, 255)]
         return page_look(*rng.choice(beyond if 6 in numbers else [(z.C - 1, z.P - 1)]))
+    if op == 0x30:
+        return write_text(rng.choice([0, 1] if 2 in numbers else [MOST_TEXT]))
+    if op == 0x31:
+        return read_text(faulty_text(rng, z, numbers))
     if op not in (0x02, 0x03):
         return good_call(rng, z, op, 0)
     back_end = rng.choice([z.B, 65535] if 6 in numbers else [0, z.B - 1])
@@ -116,6 +123,13 @@ def faulty_call(rng, z, numbers):
     if op == 0x02:
         return read(back_end, offset, length, 0)
     return write(back_end, offset, rng.randbytes(min(length, 4000)), 0)
+
+
+def faulty_text(rng, z, numbers):
+    """A text with faults of numbers 9 and 10, as asked, in any order; with one in any case, so that the chip stays."""
+    line = any_line(rng, z)
+    faults = [{9: line[2:], 10: line}[number] for number in (9, 10) if number in numbers] or [""]
+    return "".join(line + "\n" for line in [line] + rng.sample(faults, len(faults)))
 
 
 def parts_beyond(z):

@@ -10,8 +10,9 @@ from inputs import page_clauses, refusals, state_clauses
 from inputs.changed import chip, log_by_count, state
 from inputs.driving import KINDS as DRIVING_KINDS
 from inputs.driving import Script
-from inputs.language import BOUNDS, MOST_DIGITS, before_format, long_line
+from inputs.language import BOUNDS, MOST_DIGITS, before_format, full_text, long_line
 from inputs.lists import honest, texts
+from inputs.mail import mail
 from inputs.probes import ON_CHIP, RUNNING, page_look, refused
 from inputs.rich import Rich, rich_sizes
 from inputs.situation import format_line, formatted
@@ -71,11 +72,11 @@ def bounds(rng, _):
     for _ in range(100):
         lines += rng.choice(BOUNDS)(rng, rich) + rng.choice([[], [back]])
     # A line 17 may be left, which counts for no format.
-    return lines + [page_look(0, 0)] + long_line(rng)
+    return lines + [page_look(0, 0)] + long_line(rng) + full_text(rng)
 
 
-KINDS = {"honest": honest, "state": state, "chip": chip, "clauses": clauses, "refusals": refusals_at_once,
-         "language": bounds}
+KINDS = {"honest": honest, "state": state, "chip": chip, "mail": mail, "clauses": clauses,
+         "refusals": refusals_at_once, "language": bounds}
 
 
 def joined(lines):

@@ -5,7 +5,7 @@ use crate::merge::Holding;
 use crate::sizes::Sizes;
 use crate::spare::{areas, Kind, Log, Spare, SPARE_BYTES};
 
-const ERASED: u8 = 0xFF;
+pub const ERASED: u8 = 0xFF;
 
 /// The buffers a caller lends: flash data, its spare areas and the disk.
 pub struct Lent<'a> {

@@ -3,13 +3,14 @@
 
 use crate::device::{Cut, Device, Lent};
 use crate::found::Found;
+use crate::image_text;
 use crate::recover;
 use crate::sizes::Sizes;
 use crate::state::State;
 use crate::steps::Call;
 use crate::survey::Survey;
 
-/// Why a call is turned down; the numbers are document 01's.
+/// Why a call is turned down; the numbers are those of documents 01 and 02.
 #[derive(Clone, Copy, Debug, PartialEq, Eq)]
 pub enum Refusal {
     Sizes = 1,
@@ -20,6 +21,8 @@ pub enum Refusal {
     Place = 6,
     Part = 7,
     Epochs = 8,
+    Line = 9,
+    PageTwice = 10,
 }
 
 #[derive(Clone, Copy, Debug, PartialEq, Eq)]
@@ -186,6 +189,33 @@ pub fn page_look(state: State, data: &[u8], bucket: usize, page: usize) -> PageL
     }
 }
 
+/// Puts the chip's image as text at the start of a buffer; gives the text's length.
+pub fn write_text(
+    sizes: &Sizes,
+    data: &[u8],
+    spare: &[u8],
+    buffer: &mut [u8],
+) -> Result<usize, Refusal> {
+    check_chip(sizes, data, spare)?;
+    let length = image_text::length(sizes, spare);
+    let text = buffer.get_mut(..length).ok_or(Refusal::Buffers)?;
+    image_text::write(sizes, data, spare, text);
+    Ok(length)
+}
+
+/// Makes the chip the image of a text; a text with a fault changes nothing.
+pub fn read_text(
+    sizes: &Sizes,
+    text: &[u8],
+    data: &mut [u8],
+    spare: &mut [u8],
+) -> Result<(), Refusal> {
+    check_chip(sizes, data, spare)?;
+    image_text::check(sizes, text).map_err(|fault| fault.refusal)?;
+    image_text::read(sizes, text, data, spare);
+    Ok(())
+}
+
 /// The part of a back-end bucket that a read or write is about.
 struct Part {
     back_end: usize,
@@ -214,6 +244,16 @@ fn require(holds: bool, refusal: Refusal) -> Result<(), Refusal> {
 fn check_lent(sizes: &Sizes, lent: &Lent) -> Result<(), Refusal> {
     require(sizes.within_limits(), Refusal::Sizes)?;
     require(lent.fits(sizes), Refusal::Buffers)
+}
+
+/// The refusals of the entries that are lent a chip and no disk.
+fn check_chip(sizes: &Sizes, data: &[u8], spare: &[u8]) -> Result<(), Refusal> {
+    require(sizes.within_limits(), Refusal::Sizes)?;
+    let lengths = (data.len(), spare.len());
+    require(
+        lengths == (sizes.data_bytes(), sizes.spare_bytes()),
+        Refusal::Buffers,
+    )
 }
 
 /// The refusals of the four operations that need a running state, up to number 5.

@@ -1,7 +1,7 @@
 //! The recorder that the lines drive: its chip, its disk and the engine's state.
 
 use crate::device::Lent;
-use crate::engine::{self, Answer};
+use crate::engine::{self, Answer, Refusal};
 use crate::frame::TurnedDown;
 use crate::lines::Answered;
 use crate::request::Request;
@@ -136,6 +136,39 @@ impl Recorder {
         self.state = look.state;
         Ok((answer, 0))
     }
+
+    /// Writes the chip as text into a buffer with so much room; the text's length and the
+    /// text are put in `bytes`.
+    pub fn write_text(
+        &mut self,
+        room: usize,
+        missing: Missing,
+        bytes: &mut Vec<u8>,
+    ) -> Result<Answered, TurnedDown> {
+        let (sizes, state_sizes) = (self.formatted()?, self.state.sizes);
+        let lent = self.lend(sizes, missing);
+        let mut buffer = vec![0; room];
+        let written = engine::write_text(&state_sizes, lent.data, lent.spare, &mut buffer);
+        if let Ok(length) = written {
+            bytes.extend_from_slice(&(length as u32).to_be_bytes());
+            bytes.extend_from_slice(&buffer[..length]);
+        }
+        Ok(answered(written.map(|_| ())))
+    }
+
+    /// Reads a text onto the chip.
+    pub fn read_text(&mut self, text: &[u8], missing: Missing) -> Result<Answered, TurnedDown> {
+        let (sizes, state_sizes) = (self.formatted()?, self.state.sizes);
+        let lent = self.lend(sizes, missing);
+        let read = engine::read_text(&state_sizes, text, lent.data, lent.spare);
+        Ok(answered(read))
+    }
+}
+
+/// What is printed of an entry that takes no allowance.
+fn answered(outcome: Result<(), Refusal>) -> Answered {
+    let answer = outcome.map_or_else(Answer::Refused, |()| Answer::Done);
+    (answer.byte(), 0)
 }
 
 fn fits_buffers(sizes: &Sizes) -> bool {

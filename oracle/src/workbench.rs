@@ -1,5 +1,6 @@
 //! The workbench: a program whose lines are the driving program's calls and the page
-//! look, and lines that put and show states, pages and disk units just as they are.
+//! look, the text of a chip image, and lines that put and show states, pages and disk
+//! units just as they are.
 
 use std::io::{self, BufRead, Write};
 
@@ -7,11 +8,14 @@ use crate::engine::Answer;
 use crate::form::{read_state, show_state};
 use crate::frame::{Frame, TurnedDown};
 use crate::lines::{answer_lines, Answered};
+use crate::place::Place;
 use crate::recorder::{Missing, Recorder};
 use crate::request::Request;
 use crate::spare::SPARE_BYTES;
 
 const MOST_DIGITS: usize = 8_192;
+/// The longest buffer that a text can be written into.
+const MOST_TEXT: usize = 131_072;
 /// What is answered when something was put there or shown.
 const DONE: Answered = (Answer::Done.byte(), 0);
 
@@ -46,6 +50,8 @@ impl Workbench {
             0x15 => self.show_unit(frame, bytes),
             0x16 => self.page_look(frame, bytes),
             0x17 => self.lend_less(frame),
+            0x30 => self.write_text(frame, bytes),
+            0x31 => self.read_text(frame),
             _ => Err(TurnedDown::BadLine),
         }
     }
@@ -133,6 +139,25 @@ impl Workbench {
         Ok(DONE)
     }
 
+    fn write_text(
+        &mut self,
+        mut frame: Frame,
+        bytes: &mut Vec<u8>,
+    ) -> Result<Answered, TurnedDown> {
+        let room = frame.number(4)? as usize;
+        frame.end()?;
+        if room > MOST_TEXT {
+            return Err(TurnedDown::BadLine);
+        }
+        let missing = std::mem::take(&mut self.missing);
+        self.recorder.write_text(room, missing, bytes)
+    }
+
+    fn read_text(&mut self, mut frame: Frame) -> Result<Answered, TurnedDown> {
+        let missing = std::mem::take(&mut self.missing);
+        self.recorder.read_text(frame.rest(), missing)
+    }
+
     /// S of the last Done format; before it lines have no data.
     fn page_bytes(&self) -> usize {
         self.recorder
@@ -150,28 +175,5 @@ impl Workbench {
     fn unit(&self, place: Place) -> Result<usize, TurnedDown> {
         let sizes = self.recorder.formatted()?;
         place.among(sizes.back_end_buckets, sizes.bucket_pages)
-    }
-}
-
-/// A page of a cache bucket, or a unit of a back-end bucket.
-struct Place {
-    bucket: usize,
-    page: usize,
-}
-
-impl Place {
-    fn parse(frame: &mut Frame) -> Result<Place, TurnedDown> {
-        Ok(Place {
-            bucket: frame.pair()?,
-            page: frame.byte()?,
-        })
-    }
-
-    fn among(&self, buckets: usize, pages: usize) -> Result<usize, TurnedDown> {
-        if self.bucket < buckets && self.page < pages {
-            Ok(self.bucket * pages + self.page)
-        } else {
-            Err(TurnedDown::NoPlace)
-        }
     }
 }

@@ -11,9 +11,8 @@ use Rattle.model.specs.declared.Sizes.{Sizes}
 use Rattle.model.specs.Sizes.{Device}
 use Rattle.model.specs.Spare.{two}
 use Rattle.model.specs.Calls.{lentBuffer, call}
-use Rattle.model.specs.Driving.{bytesOf, operation, allowance, callOf}
-use Rattle.digits.specs.Digits.{isDigit}
-use Rattle.digits.proofs.Bytes.{byte-small}
+use Rattle.model.specs.Driving.{isDigit, bytesOf, operation, allowance, callOf}
+use Rattle.model.proofs.Digits.{byte-small}
 use Rattle.state.specs.declared.State.{State}
 use Rattle.state.specs.View.{viewOf}
 use Rattle.outcome.specs.Handed.{Handed, handed}

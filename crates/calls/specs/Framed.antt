@@ -5,8 +5,7 @@ use mathlib.Core.Bool.{true}
 use mathlib.Core.List.{List}
 use lib.ListN.{length}
 use Rattle.lists.specs.Lists.{all}
-use Rattle.model.specs.Driving.{bytesOf}
-use Rattle.digits.specs.Digits.{isDigit}
+use Rattle.model.specs.Driving.{isDigit, bytesOf}
 use Rattle.frame.specs.declared.Request.{Request}
 use Rattle.frame.specs.Request.{frameRequest}
 use Rattle.calls.specs.Arrays.{mostRead}

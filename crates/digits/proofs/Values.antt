@@ -4,12 +4,11 @@ use mathlib.Core.Bool.{true, false, _||_, true≢false}
 use Prim.Native.Nat.{ℕ, _+_, _-_, _*_, _/_, _%_, _≤_, _<_}
 use native.Mathlib.Omega.{arith}
 use native.Mathlib.Decide.{decLt}
-use borrow.Author.Tests.{lt-leb, lt-ltb, ltb-true}
+use borrow.Author.Tests.{lt-leb, lt-ltb}
 use lib.Dec.{leb}
 use Rattle.lists.specs.Lists.{within}
 use Rattle.lists.proofs.Tests.{and-false, within-true}
-use Rattle.model.specs.Driving.{digitValue}
-use Rattle.digits.specs.Digits.{isDigit}
+use Rattle.model.specs.Driving.{digitValue, isDigit}
 
 module _ (low high n : ℕ) where
   pub below : n < low → within low high n ≡ false
@@ -21,10 +20,6 @@ module _ (low high n : ℕ) where
   above h = rw (lt-leb n high h) (and-false (leb low n))
 
 module _ (c : ℕ) where
-  pub digit-below : isDigit c ≡ true → digitValue c < 16
-  unfolding isDigit
-  digit-below e = ltb-true (digitValue c) 16 e
-
   -- where a character stands: a number, a capital, a small letter, or none of them
   module _ {A : Type 0}
       (number : within 48 57 c ≡ true → 48 ≤ c → c ≤ 57 → A)

@@ -5,8 +5,7 @@ ghost use Prim.Native.Nat.{_+_, _*_, _≤_, _<_};
 ghost use lib.ListN.{length, getD, drop};
 ghost use Rattle.lists.specs.Lists.{within, all, part};
 ghost use Rattle.model.specs.Spare.{two};
-ghost use Rattle.model.specs.Driving.{digitValue, bytesOf};
-ghost use Rattle.digits.specs.Digits.{isDigit};
+ghost use Rattle.model.specs.Driving.{digitValue, isDigit, bytesOf};
 
 // The value of a digit, in either letter case; 16 for any other character.
 fn digit_value(c: u8) -> u8

@@ -14,9 +14,8 @@ use Rattle.lists.proofs.Tests.{every-at}
 use Rattle.model.specs.declared.Sizes.{Sizes}
 use Rattle.model.specs.Spare.{two}
 use Rattle.model.specs.Calls.{formatCall, readCall, writeCall, eraseCall, drainCall, recoverCall, lentBuffer}
-use Rattle.model.specs.Driving.{bytesOf, operation, allowance, formatSizes, lineFits, callOf}
-use Rattle.digits.specs.Digits.{isDigit}
-use Rattle.digits.proofs.Bytes.{bytes-length}
+use Rattle.model.specs.Driving.{isDigit, bytesOf, operation, allowance, formatSizes, lineFits, callOf}
+use Rattle.model.proofs.Digits.{bytes-length}
 use Rattle.frame.specs.declared.Request.{Request}
 use Rattle.frame.specs.declared.Request.the-variants.{Bad, Format, Read, Write, Erase, Drain, Recover}
 use Rattle.frame.specs.Request.{requestOf, isFormat}

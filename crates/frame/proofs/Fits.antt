@@ -6,11 +6,10 @@ use Prim.Native.Nat.{ℕ, _%_, _≤_, _<_}
 use native.Mathlib.Omega.{arith}
 use borrow.Author.Tests.{ne-eqb, le-leb, lt-leb}
 use lib.ListN.{length}
-use lib.Dec.{eqb, leb, ltb}
+use lib.Dec.{eqb, leb}
 use Rattle.lists.specs.Lists.{within, every, all}
 use Rattle.lists.proofs.Tests.{and-left, and-false, within-true}
-use Rattle.model.specs.Driving.{digitValue, bytesOf, operation, frameFits, lineFits}
-use Rattle.digits.specs.Digits.{isDigit}
+use Rattle.model.specs.Driving.{isDigit, bytesOf, operation, frameFits, lineFits}
 use Rattle.digits.proofs.Values.{above}
 
 module _ (f : List ℕ) where
@@ -43,14 +42,14 @@ module _ (f : List ℕ) where
 
 pub too-long : (line : List ℕ) → 512 < length line → lineFits line ≡ false
 unfolding lineFits every
-too-long line h = rw (lt-leb (length line) 512 h) (skip (all (λ c. ltb (digitValue c) 16) line) (eqb (length line % 2) 0))
+too-long line h = rw (lt-leb (length line) 512 h) (skip (all isDigit line) (eqb (length line % 2) 0))
   where
     skip : (s t : Bool) → s && (t && false) ≡ false
     skip s t = rw (and-false t) (and-false s)
 
 pub short-fits : (line : List ℕ) → length line ≤ 512 → lineFits line ≡ (all isDigit line && eqb (length line % 2) 0) && frameFits (bytesOf line)
-unfolding lineFits every isDigit
-short-fits line h = rw (le-leb (length line) 512 h) (grouped (all (λ c. ltb (digitValue c) 16) line) (eqb (length line % 2) 0) (frameFits (bytesOf line)))
+unfolding lineFits every
+short-fits line h = rw (le-leb (length line) 512 h) (grouped (all isDigit line) (eqb (length line % 2) 0) (frameFits (bytesOf line)))
   where
     grouped : (s t u : Bool) → s && (t && (u && true)) ≡ (s && t) && u
     grouped true true true = refl
@@ -59,5 +58,5 @@ short-fits line h = rw (le-leb (length line) 512 h) (grouped (all (λ c. ltb (di
     grouped false t u = refl
 
 pub fits-digits : (line : List ℕ) → lineFits line ≡ true → all isDigit line ≡ true
-unfolding lineFits every isDigit
-fits-digits line e = and-left (all (λ c. ltb (digitValue c) 16) line) _ e
+unfolding lineFits every
+fits-digits line e = and-left (all isDigit line) _ e

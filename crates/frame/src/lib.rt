@@ -5,8 +5,7 @@ ghost use mathlib.Core.Path.{_≡_};
 ghost use mathlib.Core.Bool.{true};
 ghost use lib.ListN.{length, drop};
 ghost use Rattle.lists.specs.Lists.{all};
-ghost use Rattle.model.specs.Driving.{bytesOf, operation, frameFits, lineFits};
-ghost use Rattle.digits.specs.Digits.{isDigit};
+ghost use Rattle.model.specs.Driving.{isDigit, bytesOf, operation, frameFits, lineFits};
 ghost use Rattle.frame.specs.Request.{formatFrom, readFrom, writeFrom, bareFrom, frameRequest, requestOf};
 
 // The digits of the longest line.

@@ -8,6 +8,7 @@ ghost use Rattle.lists.specs.Lists.{every, within};
 ghost use Rattle.model.specs.Sizes.{limits, body, lengths, pagesFor};
 ghost use Rattle.model.specs.Tests.{firstFailed};
 ghost use Rattle.model.specs.Calls.{lentTests};
+ghost use Rattle.model.specs.Mail.{chipLengths, chipTests};
 ghost use Rattle.model.proofs.Limits.{Limits};
 ghost use Rattle.geometry.specs.Geometry.{device};
 
@@ -47,14 +48,20 @@ pub fn body(z: Sizes) -> usize
     if z.c < 2 { 0 } else { z.c - 2 }
 }
 
-// Number 2, once number 1 is passed: the limits keep the products within the machine's numbers.
+// Number 2 of a chip without its disk, once number 1 is passed: the limits keep the products within the machine's numbers.
+fn chip_lengths(z: Sizes, flash: &[u8], spare: &[u8]) -> bool
+    requires { ⌜ Limits z ⌝ }
+    ensures { λ r. ⌜ r ≡ chipLengths z (device (now (flash .entry)) (now (spare .entry)) []) ⌝ }
+{
+    (flash.len() == z.c * (z.p * z.s)) & (spare.len() == z.c * z.p * 16)
+}
+
+// Number 2 of chip and disk.
 fn lengths(z: Sizes, flash: &[u8], spare: &[u8], disk: &[u8]) -> bool
     requires { ⌜ Limits z ⌝ }
     ensures { λ r. ⌜ r ≡ lengths z (device (now (flash .entry)) (now (spare .entry)) (now (disk .entry))) ⌝ }
 {
-    let bucket = z.p * z.s;
-    let chip = (flash.len() == z.c * bucket) & (spare.len() == z.c * z.p * 16);
-    chip & (disk.len() == z.b * bucket)
+    chip_lengths(z, flash, spare) & (disk.len() == z.b * (z.p * z.s))
 }
 
 // The number of the first of the two that is not passed, or 0.
@@ -63,6 +70,17 @@ pub fn lent_refusal(z: Sizes, flash: &[u8], spare: &[u8], disk: &[u8]) -> u8
 {
     if limits(z) {
         if lengths(z, flash, spare, disk) { 0 } else { 2 }
+    } else {
+        1
+    }
+}
+
+// The same of an entry that is lent the chip alone.
+pub fn chip_refusal(z: Sizes, flash: &[u8], spare: &[u8]) -> u8
+    ensures { λ r. ⌜ r ≡ firstFailed (chipTests z (device (now (flash .entry)) (now (spare .entry)) [])) ⌝ }
+{
+    if limits(z) {
+        if chip_lengths(z, flash, spare) { 0 } else { 2 }
     } else {
         1
     }

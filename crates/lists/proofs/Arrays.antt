@@ -6,7 +6,7 @@ use mathlib.Core.List.{List, [], _∷_, _++_, map, append-nil, append-assoc}
 use native.Mathlib.Numerals.{add-one}
 use native.Mathlib.Nat.{zero-add, zero-sub, suc-sub-suc, sub-zero}
 use native.Mathlib.Omega.{arith}
-use lib.ListN.{length, take, drop, getD, set, replicate, length-append, length-take, length-map, length-replicate, replicate-append-replicate, drop-of-length-le}
+use lib.ListN.{length, take, drop, getD, set, replicate, length-append, length-take, length-map, length-replicate, replicate-append-replicate, take-append-drop, drop-of-length-le}
 use lib.Seq.{take-suc, take-suc-set, take-all, take-at, take-nil, slice-cons, length-take-le, paste, paste-suc, drop-paste, getD-drop}
 use lib.Dec.{eqb, eqb·suc-zero}
 use Rattle.lists.specs.Lists.{if_then_else_, all, keep, empty}
@@ -137,6 +137,16 @@ module _ {A : Type 0} (t : A → Bool) where
   unfolding all
   all-append [] m = refl
   all-append (x ∷ l) m = rw (all-append l m) (sym (and-assoc (t x) (all t l) (all t m)))
+
+  module _ (n : ℕ) (l : List A) (h : all t l ≡ true) where
+    both : all t (take n l) && all t (drop n l) ≡ true
+    both = sym (all-append (take n l) (drop n l)) ∙ (ap (all t) (take-append-drop n l) ∙ h)
+
+    pub all-take : all t (take n l) ≡ true
+    all-take = and-left (all t (take n l)) (all t (drop n l)) both
+
+    pub all-drop : all t (drop n l) ≡ true
+    all-drop = and-right (all t (take n l)) (all t (drop n l)) both
 
   pub all-at : (l : List A) → all t l ≡ true → (i : ℕ) (d : A) → i < length l → t (getD l i d) ≡ true
   unfolding all

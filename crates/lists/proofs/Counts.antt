@@ -186,3 +186,12 @@ length-once n l h =
     below : (x : ℕ) → 1 ≤ times x l → Dec (x < n) → x < n
     below x t (yes u) = u
     below x t (no u) = let e : times x l ≡ 0 = h x ∙ rw (le-ltb x n (omega arith)) in absurd (omega arith)
+
+sum-most : (n k : ℕ) (f : ℕ → ℕ) → ((x : ℕ) → f x ≤ k) → sum n f ≤ n * k
+unfolding sum
+sum-most zero k f h = omega arith
+sum-most (suc n) k f h = omega (arith, sum-most n k f h, h n)
+
+-- where no number stands twice in l, and none that is not below n
+pub length-few : (n : ℕ) (l : List ℕ) → ((x : ℕ) → times x l ≤ 1) → ((x : ℕ) → 1 ≤ times x l → x < n) → length l ≤ n
+length-few n l once inside = omega (arith, length-sum n l inside, sum-most n 1 (λ c. times c l) once)

@@ -5,10 +5,10 @@ use mathlib.Core.Logic.{_≢_}
 use mathlib.Core.Bool.{Bool, true, false, _&&_, _||_, true≢false}
 use mathlib.Core.List.{List, [], _∷_, _++_, map, append-nil}
 use native.Mathlib.Omega.{arith}
-use lib.ListN.{length, take, getD}
+use lib.ListN.{length, take, getD, length-append}
 use lib.Dec.{ltb, eqb}
 use borrow.Author.Tests.{ltb-true, lt-ltb, le-ltb, eq-eqb}
-use Rattle.lists.specs.Lists.{if_then_else_, any, keep, below, member, times, insertBy, sortInto, sortBy}
+use Rattle.lists.specs.Lists.{if_then_else_, row, any, keep, below, countBelow, member, times, insertBy, sortInto, sortBy}
 use Rattle.lists.proofs.Tests.{same-truth}
 use Rattle.lists.proofs.Rows.{below-more}
 use Rattle.lists.proofs.Turns.{keep-append}
@@ -88,6 +88,16 @@ member-kept t x n h = go (t x) refl (member x (keep t (below n))) refl
     go true e v q = in-any (eqb x) (keep t (below n)) x (omega (arith, below-kept t x n h e)) (eq-eqb x x refl) ∙ sym e
     go false e true q = absurd (true≢false (sym (kept-below t x n (member-in x (keep t (below n)) q) .0) ∙ e))
     go false e false q = q ∙ sym e
+
+pub length-kept : (t : ℕ → Bool) (n : ℕ) → length (keep t (below n)) ≡ countBelow n t
+unfolding below row keep countBelow
+length-kept t zero = refl
+length-kept t (suc n) = ap length (keep-append t (below n) (n ∷ [])) ∙ (length-append (keep t (below n)) (keep t (n ∷ [])) ∙ go (t n) (length-kept t n))
+  where
+    go : (b : Bool) → length (keep t (below n)) ≡ countBelow n t
+        → length (keep t (below n)) + length (if b then n ∷ [] else []) ≡ (if b then countBelow n t + 1 else countBelow n t)
+    go true h = omega arith
+    go false h = omega arith
 
 -- a list with one member, that stands in it once
 pub length-sole : (x : ℕ) (l : List ℕ) → times x l ≡ 1 → ((y : ℕ) → 1 ≤ times y l → y ≡ x) → length l ≡ 1

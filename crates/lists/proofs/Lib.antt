@@ -13,3 +13,4 @@ pub mod Splices
 pub mod Windows
 pub mod Filters
 pub mod Members
+pub mod Joins

@@ -63,6 +63,13 @@ kept-below t x n h = (kept-in t x (below n) h .0, go (decLt x n))
 pub below-kept : (t : ℕ → Bool) (x n : ℕ) → x < n → t x ≡ true → times x (keep t (below n)) ≡ 1
 below-kept t x n h e = in-kept t x (below n) e ∙ rw (lt-ltb x n h) at (times-below x n)
 
+pub kept-once : (t : ℕ → Bool) (x n : ℕ) → times x (keep t (below n)) ≤ 1
+kept-once t x n = go (decLt 0 (times x (keep t (below n))))
+  where
+    go : Dec (0 < times x (keep t (below n))) → times x (keep t (below n)) ≤ 1
+    go (yes h) = let k = kept-below t x n h in omega (arith, below-kept t x n (k .1) (k .0))
+    go (no h) = omega arith
+
 pub length-keep : (s t : ℕ → Bool) (l : List ℕ) → length (keep s (keep t l)) ≤ length (keep s l)
 unfolding keep
 length-keep s t [] = omega arith

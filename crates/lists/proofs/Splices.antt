@@ -1,6 +1,7 @@
--- Laws of splices that follow each other, and of a splice at the start.
+-- Laws of splices that follow each other, and of a splice at the start; tests of all elements of parts and splices.
 use mathlib.Core.Path.{_≡_, sym, ap, _∙_}
 use mathlib.Core.Logic.{inl}
+use mathlib.Core.Bool.{Bool, true}
 use mathlib.Core.List.{List, [], _∷_, _++_, append-assoc}
 use Prim.Native.Nat.{ℕ, _+_, _<_, _≤_}
 use native.Mathlib.Nat.{zero-add, add-zero, add-assoc}
@@ -8,7 +9,9 @@ use native.Mathlib.Numerals.{add-one}
 use native.Mathlib.Omega.{arith}
 use lib.ListN.{length, take, drop, set, length-append, length-drop, take-append-drop}
 use lib.Seq.{set-split, drop-drop, drop-at, take-at, take-add, length-take-le}
-use Rattle.lists.specs.Lists.{splice, part}
+use Rattle.lists.specs.Lists.{all, splice, part}
+use Rattle.lists.proofs.Tests.{and-true}
+use Rattle.lists.proofs.Arrays.{all-append, all-take, all-drop}
 use Rattle.lists.proofs.Parts.{length-part-fits, splice-comm}
 
 -- one element
@@ -62,3 +65,16 @@ splice-before l bytes at a i n h k =
     splice-comm l (at + i) (part bytes (a + i) n) at (part bytes a i) (omega arith) (omega arith) (inl (omega arith))
     ∙ rw (part-next bytes a i n)
     (ap (λ (j : ℕ). splice (splice l at (part bytes a i)) (at + j) (part bytes (a + i) n)) (sym first) ∙ splice-next l at (part bytes a i) (part bytes (a + i) n) (omega arith))
+
+-- ---- what holds of all elements
+
+module _ (t : ℕ → Bool) where
+  pub all-part : (l : List ℕ) (i n : ℕ) → all t l ≡ true → all t (part l i n) ≡ true
+  unfolding part
+  all-part l i n h = all-take t n (drop i l) (all-drop t i l h)
+
+  pub all-splice : (l : List ℕ) (i : ℕ) (bs : List ℕ) → all t l ≡ true → all t bs ≡ true → all t (splice l i bs) ≡ true
+  unfolding splice
+  all-splice l i bs h k =
+      rw (all-append t (take i l) (bs ++ drop (i + length bs) l), all-append t bs (drop (i + length bs) l))
+      (and-true (all-take t i l h) (and-true k (all-drop t (i + length bs) l h)))

@@ -1,3 +1,4 @@
+pub mod Digits
 pub mod Computed
 pub mod Table
 pub mod Views
@@ -82,3 +83,12 @@ pub mod ProgramsRise
 pub mod Counts
 pub mod LogComesLast
 pub mod Allocations
+pub mod MailLines
+pub mod MailLengths
+pub mod MailFeeds
+pub mod MailChip
+pub mod MailLaid
+pub mod MailClean
+pub mod MailBack
+pub mod MailOrder
+pub mod MailTheorem

@@ -10,6 +10,7 @@ pub mod Operations
 pub mod Recover
 pub mod Calls
 pub mod Driving
+pub mod Mail
 pub mod Promise
 pub mod Companions
 pub mod StoresMade

@@ -1,7 +1,7 @@
 -- Digits of bytes, one byte after another.
-use mathlib.Core.Path.{_≡_, refl, sym, ap, _∙_}
-use mathlib.Core.List.{List, [], _∷_, _++_}
-use Prim.Native.Nat.{ℕ, _+_, _*_, _/_, _%_, _≤_, _<_}
+use mathlib.Core.Path.{_≡_, sym, ap, _∙_}
+use mathlib.Core.List.{List, [], _∷_}
+use Prim.Native.Nat.{ℕ, _+_, _*_, _≤_, _<_}
 use native.Mathlib.Omega.{arith}
 use native.Mathlib.Numerals.{add-one}
 use lib.ListN.{length, take, getD, set}
@@ -9,17 +9,8 @@ use lib.Seq.{take-suc, length-take-le}
 use Rattle.lists.specs.Lists.{splice}
 use Rattle.lists.proofs.Parts.{length-splice}
 use Rattle.lists.proofs.Splices.{splice-one, splice-next}
-use Rattle.model.specs.Driving.{digit, digitsOf}
-
-pub digits-append : (vs ws : List ℕ) → digitsOf (vs ++ ws) ≡ digitsOf vs ++ digitsOf ws
-unfolding digitsOf
-digits-append [] ws = refl
-digits-append (v ∷ vs) ws = ap (λ (l : List ℕ). digit (v / 16) ∷ digit (v % 16) ∷ l) (digits-append vs ws)
-
-pub digits-length : (vs : List ℕ) → length (digitsOf vs) ≡ length vs * 2
-unfolding digitsOf
-digits-length [] = omega arith
-digits-length (v ∷ vs) = let e = digits-length vs in omega arith
+use Rattle.model.specs.Driving.{digitsOf}
+use Rattle.model.proofs.Digits.{digits-append, digits-length}
 
 -- two stores are a splice of two
 pub put-two : (l : List ℕ) (at a b : ℕ) → at + 2 ≤ length l → set (set l at a) (at + 1) b ≡ splice l at (a ∷ b ∷ [])

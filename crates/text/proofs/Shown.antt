@@ -8,7 +8,7 @@ use Rattle.lists.specs.Lists.{splice}
 use Rattle.lists.proofs.Parts.{length-splice}
 use Rattle.lists.proofs.Splices.{splice-one, splice-next, splice-start}
 use Rattle.model.specs.Driving.{digitsOf, shown}
-use Rattle.text.proofs.Digits.{digits-length}
+use Rattle.model.proofs.Digits.{digits-length}
 
 module _ (a n : ℕ) (bs : List ℕ) where
   -- the bytes printed

@@ -21,7 +21,7 @@ fn put_byte(out: &mut [u8], at: usize, byte: u8)
     out[at + 1] = capital(byte % 16);
 }
 
-fn put_bytes(out: &mut [u8], at: usize, bytes: &[u8])
+pub fn put_bytes(out: &mut [u8], at: usize, bytes: &[u8])
     requires { ⌜ at + length (now bytes) * 2 ≤ length (now out) ⌝ }
     ensures { λ _. ⌜ now (out .exit) ≡ splice (now (out .entry)) at (digitsOf (now (bytes .entry))) ⌝ }
 {

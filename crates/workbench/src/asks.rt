@@ -13,7 +13,7 @@ ghost use mathlib.Core.Bool.{true};
 ghost use Prim.Native.Nat.{_<_, _≤_};
 ghost use lib.ListN.{length};
 ghost use Rattle.lists.specs.Lists.{all};
-ghost use Rattle.digits.specs.Digits.{isDigit};
+ghost use Rattle.model.specs.Driving.{isDigit};
 ghost use Rattle.calls.specs.Arrays.{Arrays, mostRead, Held};
 ghost use Rattle.calls.specs.Framed.{Framed};
 ghost use Rattle.drive.specs.Recorder.{Ready};

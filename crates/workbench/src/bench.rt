@@ -1,6 +1,7 @@
 // What the workbench holds from line to line, and a line's way: F0 first, then 030000, then what the line does.
 use crate::asks;
 use crate::lend;
+use crate::mail;
 use crate::puts;
 use crate::shows;
 use calls::Lengths;
@@ -37,6 +38,10 @@ const SHOW_UNIT: u8 = 0x15;
 const LOOK: u8 = 0x16;
 
 const LEND_LESS: u8 = 0x17;
+
+const SEND: u8 = 0x30;
+
+const RECEIVE: u8 = 0x31;
 
 // The driving program's recorder, and by how many bytes the next call is lent less.
 pub struct Bench {
@@ -113,7 +118,7 @@ fn page_size(formatted: bool, z: Sizes) -> usize
 // A known operation with fields of its form, at pages of s bytes.
 fn fields_fit(operation: u8, line: &[u8], fields: &[u8], s: usize) -> bool
     requires { ⌜ s ≤ 1024 ⌝ }
-    ensures { λ r. ⌜ (r ≡ true → Fields operation s (length (now (fields .entry)))) ⌝ }
+    ensures { λ r. ⌜ (r ≡ true → Fields operation s (now (fields .entry))) ⌝ }
 {
     let count = fields.len();
     match operation {
@@ -124,6 +129,8 @@ fn fields_fit(operation: u8, line: &[u8], fields: &[u8], s: usize) -> bool
         PUT_UNIT => count == 3 + s,
         SHOW_PAGE | SHOW_UNIT | LOOK => count == 3,
         LEND_LESS => count == 6,
+        SEND => mail::buffer_fits(fields),
+        RECEIVE => true,
         _ => false,
     }
 }
@@ -138,7 +145,7 @@ fn does(
     disk: &mut [u8],
     out: &mut [u8],
 ) -> Answered
-    requires { ⌜ Held (b .recorder .sizes) × Fields operation (b .recorder .sizes .s) (length (now fields)) ⌝ }
+    requires { ⌜ Held (b .recorder .sizes) × Fields operation (b .recorder .sizes .s) (now fields) ⌝ }
     requires { ⌜ Arrays (now flash) (now spare) (now disk) × (textRoom ≤ length (now out)) ⌝ }
     ensures { λ r. ⌜ Ready (r .bench .recorder .formatted) (r .bench .recorder .sizes) × (r .length ≤ length (now (out .exit))) ⌝ }
 {
@@ -161,6 +168,8 @@ fn does(
             Answered { bench: b, length }
         }
         LOOK => asks::look_line(b, fields, flash, out),
+        SEND => mail::send_line(b, fields, flash, spare, out),
+        RECEIVE => mail::receive_line(b, fields, flash, spare, out),
         _ => told(b.with_less(lend::less(fields)), model::DONE, out),
     }
 }

@@ -3,6 +3,7 @@ mod asks;
 mod bench;
 mod fields;
 mod lend;
+mod mail;
 mod place;
 mod puts;
 mod shows;
@@ -19,8 +20,8 @@ ghost use Rattle.workbench.specs.Walk.{lineRoom, Sound};
 // The bytes that are held of a line: any longer one is F0, whatever follows.
 const LINE_ROOM: usize = 8193;
 
-// The longest text of a line: answer, stores and 65,535 bytes, two digits each, and a line feed.
-const TEXT_ROOM: usize = 131077;
+// The longest text of a line: answer, stores, the length (4) of an image's text and its 131,072 bytes, two digits each, and a line feed.
+const TEXT_ROOM: usize = 262159;
 
 // How far the program has come: the bytes held of a line that is not whole yet, and whether the output failed.
 struct Walk {

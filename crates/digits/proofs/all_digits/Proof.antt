@@ -7,7 +7,7 @@ use lib.ListN.{length, take}
 use lib.Seq.{take-all}
 use Rattle.lists.proofs.Arrays.{tested-more}
 use Rattle.lists.specs.Lists.{all}
-use Rattle.digits.specs.Digits.{isDigit}
+use Rattle.model.specs.Driving.{isDigit}
 use Rattle.digits.proofs.all_digits.Statement.{statement}
 use Rattle.digits.proofs.all_digits.Tie as tie
 

@@ -2,7 +2,7 @@
 use mathlib.Core.Path.{sym, _∙_}
 use native.Mathlib.Omega.{arith}
 use borrow.Author.Needs.{needs}
-use Rattle.digits.proofs.Bytes.{byte-at, byte-behind}
+use Rattle.model.proofs.Digits.{byte-at, byte-behind}
 use Rattle.digits.proofs.byte_at.Statement.{statement}
 use Rattle.digits.proofs.byte_at.Tie as tie
 

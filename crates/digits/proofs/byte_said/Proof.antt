@@ -2,8 +2,8 @@
 use native.Mathlib.Omega.{arith}
 use Prim.Native.Nat.{_+_, _*_}
 use Rattle.lists.proofs.Arrays.{all-at}
-use Rattle.digits.proofs.Bytes.{bytes-length, byte-at}
-use Rattle.digits.specs.Digits.{isDigit}
+use Rattle.model.proofs.Digits.{bytes-length, byte-at}
+use Rattle.model.specs.Driving.{isDigit}
 use Rattle.digits.proofs.byte_said.Statement.{statement}
 use Rattle.digits.proofs.byte_said.Tie as tie
 

@@ -9,7 +9,7 @@ use lib.ListN.{length, take, drop, length-set, length-drop, drop-of-length-le}
 use Rattle.lists.proofs.Lent.{copy-more}
 use Rattle.lists.specs.Lists.{part}
 use Rattle.model.specs.Driving.{bytesOf}
-use Rattle.digits.proofs.Bytes.{bytes-length}
+use Rattle.model.proofs.Digits.{bytes-length}
 use Rattle.digits.proofs.decode.Statement.{statement}
 use Rattle.digits.proofs.decode.Tie as tie
 

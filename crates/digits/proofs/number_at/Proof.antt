@@ -3,7 +3,7 @@ use Prim.Native.Nat.{_+_}
 use native.Mathlib.Omega.{arith}
 use borrow.Author.Needs.{needs}
 use Rattle.model.specs.Spare.{two}
-use Rattle.digits.proofs.Bytes.{byte-behind}
+use Rattle.model.proofs.Digits.{byte-behind}
 use Rattle.digits.proofs.number_at.Statement.{statement}
 use Rattle.digits.proofs.number_at.Tie as tie
 

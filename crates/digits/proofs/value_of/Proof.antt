@@ -1,6 +1,7 @@
 -- `digits::value_of` meets its contract.
 use native.Mathlib.Omega.{arith}
-use Rattle.digits.proofs.Values.{digit-below, value-test}
+use Rattle.model.proofs.Digits.{digit-below}
+use Rattle.digits.proofs.Values.{value-test}
 use Rattle.digits.proofs.value_of.Statement.{statement}
 use Rattle.digits.proofs.value_of.Tie as tie
 

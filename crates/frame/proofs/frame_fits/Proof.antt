@@ -4,7 +4,7 @@ use Prim.Native.Nat.{_≤_}
 use native.Mathlib.Omega.{arith}
 use borrow.Author.Needs.{needs}
 use Rattle.model.specs.Driving.{bytesOf, operation}
-use Rattle.digits.proofs.Bytes.{bytes-length}
+use Rattle.model.proofs.Digits.{bytes-length}
 use Rattle.frame.proofs.Fits.{format-fits, read-fits, write-fits, bare-fits, unknown-high, unknown-low}
 use Rattle.frame.proofs.frame_fits.Statement.{statement}
 use Rattle.frame.proofs.frame_fits.Tie as tie

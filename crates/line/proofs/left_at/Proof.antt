@@ -3,7 +3,7 @@ use native.Mathlib.Omega.{arith}
 use borrow.Author.Needs.{needs}
 use lib.ListN.{length-drop}
 use Rattle.model.specs.Driving.{bytesOf}
-use Rattle.digits.proofs.Bytes.{bytes-length}
+use Rattle.model.proofs.Digits.{bytes-length}
 use Rattle.line.proofs.left_at.Statement.{statement}
 use Rattle.line.proofs.left_at.Tie as tie
 

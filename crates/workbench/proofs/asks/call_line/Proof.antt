@@ -3,7 +3,7 @@ use mathlib.Core.Path.{sym, _∙_}
 use native.Mathlib.Omega.{arith}
 use borrow.Author.Needs.{needs}
 use Rattle.drive.proofs.Asking.{asked-held}
-use Rattle.digits.proofs.Bytes.{bytes-length}
+use Rattle.model.proofs.Digits.{bytes-length}
 use Rattle.workbench.proofs.asks.call_line.Statement.{statement}
 use Rattle.workbench.proofs.asks.call_line.Tie as tie
 

@@ -36,6 +36,14 @@ show-unit-requires c κs = search needs
 look-line-requires : tie.Need-look-line-requires
 look-line-requires c κs = search needs
 
+send-line-requires : tie.Need-send-line-requires
+send-line-requires c κs = let p = c .before .before .before .before .before .before .before .before .before .before .before .pre in
+    ((p .0 .0, p .0 .1 .text (c .before .before .before .match .keys8)), (p .1 .0 .flash-length, p .1 .0 .spare-length, p .1 .1))
+
+receive-line-requires : tie.Need-receive-line-requires
+receive-line-requires c κs = let p = c .before .before .before .before .before .before .before .before .before .before .before .pre in
+    (p .0 .0, p .1 .0 .flash-length, p .1 .0 .spare-length, p .1 .1)
+
 less-requires : tie.Need-less-requires
 less-requires c κs = search needs
 
@@ -111,8 +119,32 @@ returns-7 c = search needs
 same-length-15 : tie.Need-same-length-15
 same-length-15 c = search needs
 
+same-length-16 : tie.Need-same-length-16
+same-length-16 c = search needs
+
+same-length-17 : tie.Need-same-length-17
+same-length-17 c = search needs
+
 returns-8 : tie.Need-returns-8
 returns-8 c = search needs
+
+same-length-18 : tie.Need-same-length-18
+same-length-18 c = search needs
+
+same-length-19 : tie.Need-same-length-19
+same-length-19 c = search needs
+
+same-length-20 : tie.Need-same-length-20
+same-length-20 c = search needs
+
+returns-9 : tie.Need-returns-9
+returns-9 c = search needs
+
+same-length-21 : tie.Need-same-length-21
+same-length-21 c = search needs
+
+returns-10 : tie.Need-returns-10
+returns-10 c = search needs
 
 pub does-spec : {M : Type 1} → statement M
 does-spec =
@@ -129,6 +161,8 @@ does-spec =
     told-requires-3
     show-unit-requires
     look-line-requires
+    send-line-requires
+    receive-line-requires
     less-requires
     with-less-requires
     told-requires-4
@@ -154,4 +188,12 @@ does-spec =
     same-length-14
     returns-7
     same-length-15
-    returns-8)
+    same-length-16
+    same-length-17
+    returns-8
+    same-length-18
+    same-length-19
+    same-length-20
+    returns-9
+    same-length-21
+    returns-10)

@@ -2,7 +2,7 @@
 use native.Mathlib.Omega.{arith}
 use borrow.Author.Needs.{needs}
 use lib.ListN.{length-take}
-use Rattle.digits.proofs.Bytes.{bytes-length}
+use Rattle.model.proofs.Digits.{bytes-length}
 use Rattle.workbench.proofs.bench.on_digits.Statement.{statement}
 use Rattle.workbench.proofs.bench.on_digits.Tie as tie
 

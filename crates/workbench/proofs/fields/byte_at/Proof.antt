@@ -1,6 +1,8 @@
 -- `workbench::fields::byte_at` meets its contract.
+use mathlib.Core.Path.{refl, sym}
 use native.Mathlib.Omega.{arith}
 use borrow.Author.Needs.{needs}
+use lib.ListN.{List·getD-eq-default}
 use Rattle.workbench.proofs.fields.byte_at.Statement.{statement}
 use Rattle.workbench.proofs.fields.byte_at.Tie as tie
 
@@ -11,10 +13,10 @@ cast-result : tie.Need-cast-result
 cast-result c = omega (arith, c .shared-slice-known .given (c .before .before .args .at))
 
 returns : tie.Need-returns
-returns c = omega (arith, c .shared-slice-known .given (c .before .before .args .at))
+returns c = (refl, omega (arith, c .shared-slice-known .given (c .before .before .args .at)))
 
 returns-2 : tie.Need-returns-2
-returns-2 c = search needs
+returns-2 c = (sym (List·getD-eq-default (c .before .args .fields .now) 0 (omega arith)), omega arith)
 
 pub byte-at-spec : {M : Type 1} → statement M
 byte-at-spec = tie.close (tie.spec shared-slice-read-result cast-result returns returns-2)

@@ -1,0 +1,5 @@
+pub mod Tested
+pub mod Places
+pub mod Given
+pub mod Walked
+pub mod Accepted
