@@ -9,13 +9,14 @@ use lib.ListN.{length, drop, getD, length-append, drop-of-length-le}
 use lib.Dec.{leb, eqb}
 use Rattle.lists.specs.Lists.{all}
 use Rattle.lists.proofs.Tests.{and-left, and-right, and-true, every-at, every-more, every-none}
+use Rattle.lists.proofs.Arrays.{all-drop}
 use Rattle.model.specs.declared.Entry.{Entry}
 use Rattle.model.specs.State.{State}
 use Rattle.form.specs.Numbers.{numberIn, inBytes}
 use Rattle.form.specs.Rows.{width, rowBytes, rowIn, rowFits, tableIn, tableFits, behind}
 use Rattle.form.specs.Form.{sizeWidths, headWidths, sizeNumbers, mark, headNumbers, entryWidths, entryNumbers, entryFrom, isEntry, isPlain, bucketWidths, bucketNumbers, bucketFrom, entriesForm, bucketsForm, formOf, hasForm, entryTyped, typed, fromReads, fromWrites, fromGc, fromFree, isForm, sizesFrom, entriesIn, bucketsIn, stateIn}
 use Rattle.form.specs.Claims.{ReadsBack, WritesBack}
-use Rattle.form.proofs.Tables.{all-drop, all-mapped, map-back, row-at, row-join, row-back, row-behind, row-small, row-whole, row-length, rows-pass, rows-made, Read, Written, values-read, values-written}
+use Rattle.form.proofs.Tables.{all-mapped, map-back, row-at, row-join, row-back, row-behind, row-small, row-whole, row-length, rows-pass, rows-made, Read, Written, values-read, values-written}
 
 -- ---- a mark
 

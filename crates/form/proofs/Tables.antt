@@ -10,17 +10,12 @@ use lib.Seq.{drop-at, take-add}
 use lib.Dec.{leb}
 use Rattle.lists.specs.Lists.{all, concatMap}
 use Rattle.lists.proofs.Tests.{and-left, and-right, and-true}
+use Rattle.lists.proofs.Arrays.{all-drop}
 use Rattle.form.specs.Numbers.{numberBytes, numberIn, inBytes}
 use Rattle.form.specs.Rows.{width, rowBytes, rowIn, rowFits, rowsIn, tableBytes, tableIn, tableSize, tableFits, behind}
 use Rattle.form.proofs.Numbers.{number-length, number-back, number-small, number-bytes}
 
 -- ---- tests of all elements
-
-pub all-drop : {A : Type 0} (t : A → Bool) (n : ℕ) (l : List A) → all t l ≡ true → all t (drop n l) ≡ true
-unfolding all
-all-drop t zero l h = h
-all-drop t (suc n) [] h = h
-all-drop t (suc n) (x ∷ l) h = all-drop t n l (and-right (t x) (all t l) h)
 
 module _ {A B : Type 0} (t : A → Bool) (f : A → B) where
   pub all-mapped : (s : B → Bool) → ((x : A) → t x ≡ true → s (f x) ≡ true) → (l : List A) → all t l ≡ true → all s (map f l) ≡ true
