@@ -64,16 +64,19 @@ module _ (z : Sizes) where
 
   harmless_still : (d e : Device) → Still d e → (s : Store) → Harmless d s → Harmless e s
   harmless_still d e same (program c k bytes tag) h = (h.0, new_still d e same c (epoch tag) h.1, h.2)
+  harmless_still d e same (erase bucket) h = elim h [ ]
   harmless_still d e same (unit u bytes) h = h
 
   store_still : (d : Device) → Lengths z d → (s : Store) → Harmless d s → Still d (apply z d s)
   unfolding page_index
   store_still d L (program c k bytes tag) h c' k' hc =
       tag_other_place z d L c k bytes tag h.2 c' k' (λ q. omega (arith, h.2.1, mul-le-mul_right z.p (le_trans h.0 hc)))
+  store_still d L (erase bucket) h c' k' hc = elim h [ ]
   store_still d L (unit u bytes) h c' k' hc = tag_unit z d u bytes c' k'
 
   harmless_fits : (d : Device) (s : Store) → Harmless d s → Fits z s
   harmless_fits d (program c k bytes tag) h = h.2
+  harmless_fits d (erase bucket) h = elim h [ ]
   harmless_fits d (unit u bytes) h = h
 
   rest_harmless : (d : Device) → Lengths z d → (s : Store) → Harmless d s → (ss : List Store) → Each (Harmless d) ss → Each (Harmless (apply z d s)) ss
@@ -113,6 +116,7 @@ module _ (z : Sizes) where
   module _ (p_pos : 1 ≤ z.p) where
     apart_store : (d : Device) → Lengths z d → (s : Store) → Harmless d s → Apart z d → Apart z (apply z d s)
     apart_store d L (program c k bytes tag) h a = apart_program z d L c k bytes tag h.2 h.0 h.1 a
+    apart_store d L (erase bucket) h a = elim h [ ]
     apart_store d L (unit u bytes) h a = apart_unit z d u bytes a
 
     ledger_store : (d : Device) → Lengths z d → (n : ℕ) → (s : Store) → Harmless d s → Ledger z d n → Ledger z (apply z d s) n
@@ -136,6 +140,7 @@ module _ (z : Sizes) where
     cut_found : (plain : List ℕ) (d : Device) (s : Store) (ss : List Store) → Harmless d s → Findable z plain d → (blanked : ℕ → Bool) → Findable z plain (torn z (unspoiling blanked) d (s ∷ ss))
     unfolding torn
     cut_found plain d (program c k bytes tag) ss h f blanked = f
+    cut_found plain d (erase bucket) ss h f blanked = elim h [ ]
     cut_found plain d (unit u bytes) ss h f blanked = f
 
     pub findable_cuts : (plain : List ℕ) (ss : List Store) (d : Device) (n : ℕ) → n ≤ 4294967296 → Each (Harmless d) ss → Ledger z d n
