@@ -1,4 +1,6 @@
 // Bytes in lent areas: copied over a part, or filled into it. Every store of bytes goes through here.
+#![tactic(auto)]
+
 ghost use Rattle.std.specs.Prelude.{◌≡◌, ◌⊎◌, ◌+◌, ◌≤◌, length, replicate};
 ghost use Rattle.lists.specs.Lists.{part, splice};
 

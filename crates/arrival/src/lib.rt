@@ -1,4 +1,6 @@
 // The log of a write: behind the pages of the back-end bucket's Write bucket, or in a new one; and the write accepted.
+#![tactic(auto)]
+
 ghost use Rattle.std.specs.Prelude.{◌≡◌, ◌≤◌, length};
 ghost use Rattle.model.specs.Sizes.{pages_for};
 ghost use Rattle.model.specs.Steps.{◌then◌, make_room};

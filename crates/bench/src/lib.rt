@@ -1,5 +1,7 @@
 // The engine's operations, repeated on lent areas of any size. Each run gives the sum of the stores made.
 // The old merge and the new one too, of one Write bucket over the disk's bytes.
+#![tactic(auto)]
+
 ghost use Rattle.std.specs.Prelude.{◌≡◌, ◌+◌, ◌≤◌, length};
 ghost use Rattle.model.specs.Sizes.{bucket_size};
 ghost use Rattle.overlay.specs.Window.{Readable};

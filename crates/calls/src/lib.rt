@@ -1,4 +1,6 @@
 // The call that a line asks for, made on the parts of the program's arrays that hold chip and disk.
+#![tactic(auto)]
+
 ghost use Rattle.std.specs.Prelude.{◌≡◌, true, [], ◌<◌, ◌≤◌, length, take, drop, replicate};
 ghost use Rattle.lists.specs.Lists.{all};
 ghost use Rattle.model.specs.Sizes.{flash_size, spare_size, disk_size};

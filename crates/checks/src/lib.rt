@@ -1,4 +1,6 @@
 // The tests of a call, in the table's order: the number of the first that fails, or 0.
+#![tactic(auto)]
+
 ghost use Rattle.std.specs.Prelude.{◌≡◌, [], ◌∷◌, ◌++◌, leb};
 ghost use Rattle.model.specs.Image.{body_fits};
 ghost use Rattle.model.specs.Ledger.{recoverable};

@@ -1,6 +1,8 @@
 // The cache buckets by what recovery makes of them.
 // The used buckets stand in one order, by epoch. A column beside it holds the back-end bucket of each bucket that is such, and NOWHERE for
 // the others; each list of recovery is a selection of the order.
+#![tactic(auto)]
+
 ghost use Rattle.std.specs.Prelude.{◌≡◌, true, map, ◌≤◌, ◌<◌, length};
 ghost use Rattle.lists.specs.Lists.{if◌then◌else◌, times};
 ghost use Rattle.model.specs.Sizes.{body};

@@ -1,4 +1,6 @@
 // Logs in a bucket just allocated, and the whole copy of a back-end bucket among them.
+#![tactic(auto)]
+
 ghost use Rattle.std.specs.Prelude.{◌≡◌, false, ◌*◌, ◌≤◌, ◌<◌, length, take};
 ghost use Rattle.lists.specs.Lists.{splice};
 ghost use Rattle.model.specs.Sizes.{bucket_size, body};

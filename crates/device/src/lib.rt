@@ -1,4 +1,6 @@
 // The three kinds of store, each made wholly on the lent areas.
+#![tactic(auto)]
+
 ghost use Rattle.std.specs.Prelude.{◌≡◌, ◌*◌, ◌<◌, length};
 ghost use Rattle.lists.specs.Lists.{splice, ff};
 ghost use Rattle.model.specs.Sizes.{page_index, bucket_size, flash_size, spare_size, disk_size};

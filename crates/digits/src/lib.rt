@@ -1,4 +1,6 @@
 // Bytes written as hexadecimal digits, two to a byte, and read from them.
+#![tactic(auto)]
+
 ghost use Rattle.std.specs.Prelude.{◌≡◌, true, ◌+◌, ◌*◌, ◌≤◌, ◌<◌, length, get_or, drop};
 ghost use Rattle.lists.specs.Lists.{within, all, part};
 ghost use Rattle.model.specs.Spare.{two};

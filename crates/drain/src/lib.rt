@@ -1,4 +1,6 @@
 // Drain: all that the disk lacks is written to it.
+#![tactic(auto)]
+
 ghost use Rattle.std.specs.Prelude.{◌≡◌, [], length};
 ghost use Rattle.model.specs.Sizes.{disk_size};
 ghost use Rattle.model.specs.Operations.{drain};

@@ -1,4 +1,6 @@
 // A line of the driving program: what is printed of it, and the recorder that it leaves.
+#![tactic(auto)]
+
 ghost use Rattle.std.specs.Prelude.{◌≡◌, true, [], ◌+◌, ◌*◌, ◌<◌, ◌≤◌, length, take};
 ghost use Rattle.lists.specs.Lists.{if◌then◌else◌};
 ghost use Rattle.model.specs.declared.Answer.TheVariants.{Done};

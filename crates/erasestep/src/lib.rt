@@ -1,4 +1,6 @@
 // The erase step.
+#![tactic(auto)]
+
 ghost use Rattle.std.specs.Prelude.{◌≡◌, []};
 ghost use Rattle.model.specs.Steps.{erase_step};
 ghost use Rattle.model.specs.Calls.{erase_call, done_answer, carry_out, call};

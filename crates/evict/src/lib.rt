@@ -1,4 +1,6 @@
 // A Write bucket is evicted: its merged bytes are kept as a Dirty copy, or on the disk, and it joins GC.
+#![tactic(auto)]
+
 ghost use Rattle.std.specs.Prelude.{◌≡◌, true};
 ghost use Rattle.model.specs.Image.{body_fits};
 ghost use Rattle.model.specs.Steps.{merged, evict};

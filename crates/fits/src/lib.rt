@@ -1,4 +1,6 @@
 // Number 5: whether a state fits the chip.
+#![tactic(auto)]
+
 ghost use Rattle.std.specs.Prelude.{◌≡◌, true, ◌*◌, ◌<◌, max, eqb};
 ghost use Rattle.lists.specs.Lists.{all, max_below};
 ghost use Rattle.model.specs.Sizes.{body};

@@ -1,4 +1,6 @@
 // The form of a state: its bytes, in which a program may keep it, and back.
+#![tactic(auto)]
+
 mod reading;
 mod writing;
 

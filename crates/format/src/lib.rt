@@ -1,4 +1,6 @@
 // Format: all buckets of the chip are erased, and free.
+#![tactic(auto)]
+
 ghost use Rattle.std.specs.Prelude.{◌≡◌, [], map};
 ghost use Rattle.lists.specs.Lists.{below};
 ghost use Rattle.model.specs.Stores.{erase};

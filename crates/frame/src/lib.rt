@@ -1,4 +1,6 @@
 // What a line of the driving program asks for. It is one frame of bytes, walked from field to field.
+#![tactic(auto)]
+
 ghost use Rattle.std.specs.Prelude.{◌≡◌, true, length, drop};
 ghost use Rattle.lists.specs.Lists.{all};
 ghost use Rattle.model.specs.Driving.{is_digit, bytes_of, operation, frame_fits, line_fits};

@@ -1,5 +1,7 @@
 // The bytes of a back-end bucket: its Write bucket's complete logs over its read bucket, or over the disk if there is none.
 // A window is a lent buffer that comes to show a part of them; no other byte is copied.
+#![tactic(auto)]
+
 ghost use Rattle.std.specs.Prelude.{◌≡◌, true, List, ℕ, ◌+◌, ◌*◌, ◌≤◌, ◌<◌, length, take};
 ghost use Rattle.lists.specs.Lists.{all, part};
 ghost use Rattle.model.specs.Sizes.{bucket_size, disk_size, body};

@@ -1,4 +1,6 @@
 // Numbers 1 and 2 of the table: the limits of the sizes, and the lengths of the lent areas.
+#![tactic(auto)]
+
 ghost use Rattle.std.specs.Prelude.{◌≡◌, [], ◌∷◌, ◌+◌, ◌≤◌, leb};
 ghost use Rattle.lists.specs.Lists.{every, within};
 ghost use Rattle.model.specs.Sizes.{limits, body, lengths, pages_for};

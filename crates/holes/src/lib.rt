@@ -1,4 +1,6 @@
 // Number 4 of recovery: a named bucket may have holes, and its ordinals are not looked at. All other buckets are made by the page rules.
+#![tactic(auto)]
+
 ghost use Rattle.std.specs.Prelude.{◌≡◌, true, not, map, ◌<◌, eqb};
 ghost use Rattle.lists.specs.Lists.{all_below, keep, below, distinct};
 ghost use Rattle.model.specs.Sizes.{body};

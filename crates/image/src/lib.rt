@@ -1,6 +1,8 @@
 // What a cache bucket is, read from its spare bytes.
 // A fact of a bucket depends on the spare area alone: contracts state it of `spare_only`, a device with nothing else, and the laws of
 // `proofs/SameSpare` carry it over to every device with the same spare area.
+#![tactic(auto)]
+
 ghost use Rattle.std.specs.Prelude.{◌≡◌, true, ◌-◌, ◌≤◌, ◌<◌, leb, eqb};
 ghost use Rattle.model.specs.Stores.{tag_of};
 ghost use Rattle.model.specs.Spare.{kind};

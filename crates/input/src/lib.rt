@@ -1,4 +1,6 @@
 // The program's input, taken in pieces: bytes are gathered into lines, and each line is walked once it is whole.
+#![tactic(auto)]
+
 ghost use Rattle.std.specs.Prelude.{◌≡◌, List, ◌++◌, ℕ, ◌+◌, ◌<◌, ◌≤◌, length, take, drop, replicate};
 ghost use Rattle.model.specs.Driving.{output};
 ghost use Rattle.drive.specs.Recorder.{longest_text, Ready};

@@ -1,5 +1,7 @@
 // The erase ledger: whether its pages are well formed, and the buckets that its entries name.
 // Its two buckets are the chip's last. Their pages lie in a row, and are counted from the first of the lower one on.
+#![tactic(auto)]
+
 ghost use Rattle.std.specs.Prelude.{◌≡◌, true, false, ◌||◌, [], ◌∷◌, ℕ, ◌+◌, ◌*◌, ◌≤◌, ◌<◌, length, eqb};
 ghost use Rattle.lists.specs.Lists.{every, all_below, max_below, part};
 ghost use Rattle.model.specs.Sizes.{body};

@@ -1,5 +1,7 @@
 // A walk along a line's frame of bytes, from field to field. The borrow checker covers no function over a struct that holds a
 // reference, so these are few, thin and proved by hand.
+#![tactic(auto)]
+
 ghost use Rattle.std.specs.Prelude.{◌≡◌, ◌+◌, ◌<◌, ◌^◌, length, drop};
 ghost use Rattle.model.specs.Driving.{bytes_of};
 ghost use Rattle.line.specs.Field.{field_at, at_start, behind};

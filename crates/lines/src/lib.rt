@@ -1,4 +1,6 @@
 // The lines of a text that comes in pieces: where they end, and their bytes gathered.
+#![tactic(auto)]
+
 ghost use Rattle.std.specs.Prelude.{◌≡◌, ◌++◌, ◌<◌, ◌≤◌, length, take, get_or};
 ghost use Rattle.lines.specs.Lines.{OneLine};
 

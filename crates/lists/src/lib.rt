@@ -1,1 +1,2 @@
 // Definitions and laws of lists alone: see specs/ and proofs/.
+#![tactic(auto)]

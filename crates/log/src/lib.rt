@@ -1,5 +1,7 @@
 // A log, programmed page by page under the allowance.
 // Code that lays the bytes of its pages itself, at one go, writes their spare bytes behind: the law of `proofs/Spliced`.
+#![tactic(auto)]
+
 ghost use Rattle.std.specs.Prelude.{◌≡◌, ◌+◌, ◌*◌, ◌≤◌, ◌<◌, length};
 ghost use Rattle.model.specs.Sizes.{spare_size, page_index, pages_for};
 ghost use Rattle.lists.specs.Lists.{splice, ff};

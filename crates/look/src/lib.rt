@@ -1,4 +1,6 @@
 // The page look: a page's own bytes in the lent flash.
+#![tactic(auto)]
+
 ghost use Rattle.std.specs.Prelude.{◌≡◌};
 ghost use Rattle.model.specs.Tests.{first_failed};
 ghost use Rattle.model.specs.Calls.{look_tests, look_answer, look_bytes, answer_byte};

@@ -2,6 +2,8 @@
 // the benchmark. No entry calls it.
 // A window is a lent buffer that shows a part of the base; merged, it shows the same part of the result. Only the bytes in the window are
 // copied.
+#![tactic(auto)]
+
 ghost use Rattle.std.specs.Prelude.{◌≡◌, List, ℕ, ◌+◌, ◌≤◌, ◌<◌, min, length};
 ghost use Rattle.lists.specs.Lists.{splice};
 ghost use Rattle.model.specs.Sizes.{bucket_size, flash_size, body};

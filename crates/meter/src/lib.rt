@@ -1,4 +1,6 @@
 // The allowance of stores: each store is counted, and made only while the allowance has one left.
+#![tactic(auto)]
+
 ghost use Rattle.std.specs.Prelude.{◌≡◌, false, ◌<◌};
 ghost use Rattle.geometry.specs.Geometry.{Lent};
 ghost use Rattle.model.specs.Stores.{erase};

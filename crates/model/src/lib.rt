@@ -1,4 +1,5 @@
 // The plain data that the code and the definitions share.
+#![tactic(auto)]
 
 // The state of a page, its spare byte 0.
 pub const READ_KIND: u8 = 1;

@@ -1,4 +1,6 @@
 // An erase, and the ledger entry before it: made, or counted. Which page takes the entry and what it says are looked up before the first store.
+#![tactic(auto)]
+
 ghost use Rattle.std.specs.Prelude.{◌≡◌, ◌<◌, not, [], ◌∷◌, leb};
 ghost use Rattle.lists.specs.Lists.{ff};
 ghost use Rattle.model.specs.Sizes.{body};

@@ -1,4 +1,6 @@
 // The least recent read bucket gives way to another.
+#![tactic(auto)]
+
 ghost use Rattle.std.specs.Prelude.{◌≡◌, List, ℕ, length};
 ghost use Rattle.model.specs.Sizes.{flash_size, disk_size};
 ghost use Rattle.model.specs.Stores.{bucket_bytes, unit_stores};

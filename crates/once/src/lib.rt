@@ -1,4 +1,6 @@
 // Whether the state's queues hold each cache bucket once.
+#![tactic(auto)]
+
 ghost use Rattle.std.specs.Prelude.{◌≡◌, ℕ, ◌≤◌, ◌<◌, eqb, get_or};
 ghost use Rattle.lists.specs.Lists.{all_below};
 ghost use Rattle.model.specs.Sizes.{body};

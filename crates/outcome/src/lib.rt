@@ -1,4 +1,6 @@
 // What an entry hands back.
+#![tactic(auto)]
+
 ghost use Rattle.std.specs.Prelude.{◌≡◌, ◌≤◌};
 ghost use Rattle.state.specs.View.{places_of};
 ghost use Rattle.outcome.specs.Handed.{cut_short, finished, turned};

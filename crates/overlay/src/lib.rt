@@ -1,5 +1,7 @@
 // The complete logs of cache buckets over the bytes that lie under them. Each byte is copied once: from the last log that covers it, or from
 // under the logs. The whole is all bytes of a back-end bucket; a run is a part of it that one log covers last, or none.
+#![tactic(auto)]
+
 ghost use Rattle.std.specs.Prelude.{◌≡◌, true, ◌&&◌, ◌⊎◌, List, [], ◌∷◌, ℕ, ◌+◌, ◌-◌, ◌*◌, ◌≤◌, ◌<◌, max, length, take, get_or, leb, ltb, eqb};
 ghost use Rattle.lists.specs.Lists.{if◌then◌else◌, all, splice, part};
 ghost use Rattle.model.specs.Sizes.{bucket_size, body};

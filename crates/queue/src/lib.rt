@@ -1,4 +1,6 @@
 // A queue of back-end buckets with their cache buckets, by value.
+#![tactic(auto)]
+
 ghost use Rattle.std.specs.Prelude.{◌≡◌, true, [], ◌∷◌, map, ◌+◌, ◌≤◌, ◌<◌, length, take, drop, get_or, leb};
 ghost use Rattle.std.proofs.Math.Seq.{paste};
 ghost use Rattle.lists.specs.Lists.{distinct};

@@ -1,4 +1,6 @@
 // Read.
+#![tactic(auto)]
+
 ghost use Rattle.std.specs.Prelude.{◌≡◌, false, ◌||◌, ◌+◌, ◌*◌, ◌≤◌, length};
 ghost use Rattle.lists.specs.Lists.{if◌then◌else◌, part};
 ghost use Rattle.model.specs.Sizes.{bucket_size};

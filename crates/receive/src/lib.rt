@@ -1,4 +1,6 @@
 // Chip images by mail, read: a text's lines are looked at one after the other, and laid onto the chip once none is faulty.
+#![tactic(auto)]
+
 ghost use Rattle.std.specs.Prelude.{◌≡◌, true, List, [], ◌∷◌, map, ℕ, ◌*◌, ◌<◌, length};
 ghost use Rattle.lists.specs.Lists.{all};
 ghost use Rattle.model.specs.Tests.{first_failed};

@@ -1,4 +1,6 @@
 // Recover: the ledger's erases; then the state from the chip's spare area alone, and the units of what the queues have no place for.
+#![tactic(auto)]
+
 ghost use Rattle.std.specs.Prelude.{◌≡◌, true, [], map, ◌++◌, ◌+◌, ◌≤◌, ◌<◌, length};
 ghost use Rattle.lists.specs.Lists.{all};
 ghost use Rattle.model.specs.Sizes.{body};

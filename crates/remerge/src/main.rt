@@ -1,6 +1,8 @@
 // The old merge and the new one on the same buckets. Chips of several sizes are made by the engine's calls, by erases that cuts stop halfway and by
 // pages that they spoil; after each call the Write buckets of every back-end bucket are merged by either, over the disk's bytes and over a cache
 // bucket's, in several windows.
+#![tactic(auto)]
+
 mod calls;
 mod compare;
 mod listed;

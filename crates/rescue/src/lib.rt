@@ -1,5 +1,7 @@
 // The units that recovery writes: all of each rescued back-end bucket, in rising order.
 // The bytes are laid where they belong, in the disk's part for the units that the allowance lets be made: there is no work area.
+#![tactic(auto)]
+
 ghost use Rattle.std.specs.Prelude.{◌≡◌, true, List, [], ℕ, ◌*◌, ◌≤◌, ◌<◌, length, take, get_or};
 ghost use Rattle.lists.specs.Lists.{if◌then◌else◌, all, head, member, part};
 ghost use Rattle.model.specs.Sizes.{bucket_size, disk_size, body};

@@ -1,5 +1,7 @@
 // Calls cut after every number of stores, the page that came next spoiled, then recoveries cut after every number of stores, erases stopped
 // halfway in both, on chips of several sizes; and a length that no workbench line can say.
+#![tactic(auto)]
+
 mod ahead;
 mod back;
 mod cuts;

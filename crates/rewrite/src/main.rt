@@ -1,4 +1,6 @@
 // The rewriting program: the text of a chip image from standard input, written again to standard output.
+#![tactic(auto)]
+
 ghost use Rattle.std.specs.Prelude.{◌≡◌, true, [], ◌∷◌, ◌++◌, ◌-◌, ◌≤◌, length, take};
 ghost use Rattle.lists.specs.Lists.{all, splice, part};
 ghost use Rattle.model.specs.Tests.{first_failed};

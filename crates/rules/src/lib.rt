@@ -3,6 +3,8 @@
 // A later page is compared with the page before it, which fits: bytes that are the same say fields that fit too.
 // Most pages go on with a log, and are taken in runs: two numbers of eight bytes tell it.
 // A bucket with a spoiled page does not pass so: it is gone through page by page, by the rules as they are written.
+#![tactic(auto)]
+
 ghost use Rattle.std.specs.Prelude.{◌≡◌, true, ◌&&◌, ◌||◌, List, map, ℕ, ◌+◌, ◌-◌, ◌*◌, ◌%◌, ◌≤◌, ◌<◌, length, eqb};
 ghost use Rattle.lists.specs.Lists.{all_below, times, distinct, keep, below};
 ghost use Rattle.model.specs.Sizes.{body, pages_for};

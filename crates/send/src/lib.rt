@@ -1,4 +1,6 @@
 // Chip images by mail, written: a line for each page that is not blank.
+#![tactic(auto)]
+
 ghost use Rattle.std.specs.Prelude.{◌≡◌, not, [], ◌∷◌, ◌++◌, ◌+◌, ◌*◌, ◌/◌, ◌%◌, ◌<◌, ◌≤◌, length};
 ghost use Rattle.lists.specs.Lists.{count_below, splice, part};
 ghost use Rattle.model.specs.Tests.{first_failed};

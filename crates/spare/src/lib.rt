@@ -1,4 +1,6 @@
 // The sixteen spare bytes of a page: written from fields, and read.
+#![tactic(auto)]
+
 ghost use Rattle.std.specs.Prelude.{◌≡◌, ◌&&◌, ◌+◌, ◌*◌, ◌≤◌, eqb, length};
 ghost use Rattle.lists.specs.Lists.{all_below, same, part, ff};
 ghost use Rattle.model.specs.Spare.{two, four, blank, programmed, kind, ordinal, pages, epoch, back, zeros, entry_tag};

@@ -1,4 +1,6 @@
 // The engine's state by value, and its moves.
+#![tactic(auto)]
+
 ghost use Rattle.std.specs.Prelude.{◌≡◌, true, [], ◌++◌, map, ◌+◌, ◌≤◌, length, leb};
 ghost use Rattle.lists.specs.Lists.{if◌then◌else◌};
 ghost use Rattle.lists.specs.Arrays.{joined};

@@ -1,4 +1,6 @@
 // An operation under way, and the erase step.
+#![tactic(auto)]
+
 ghost use Rattle.std.specs.Prelude.{◌≡◌};
 ghost use Rattle.model.specs.Steps.{erase_step};
 ghost use Rattle.geometry.specs.Geometry.{Lent};

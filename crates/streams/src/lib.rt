@@ -1,4 +1,6 @@
 // Standard input and standard output: what was read, and how much was written. A call that may yet do better is made again.
+#![tactic(auto)]
+
 ghost use Rattle.std.specs.Prelude.{◌≡◌, true, ◌<◌, ◌≤◌, length};
 
 // What a read gave: so many bytes or the end of the input; neither where it failed.

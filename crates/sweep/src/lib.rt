@@ -1,4 +1,6 @@
 // Recovery's erases: each named bucket once, rising, then the ledger's two, without entries.
+#![tactic(auto)]
+
 ghost use Rattle.std.specs.Prelude.{◌≡◌, map};
 ghost use Rattle.lists.specs.Lists.{below, keep};
 ghost use Rattle.model.specs.Sizes.{body};

@@ -1,4 +1,6 @@
 // What the driving program prints of a line: hexadecimal digits and a line feed.
+#![tactic(auto)]
+
 ghost use Rattle.std.specs.Prelude.{◌≡◌, [], ◌∷◌, ◌++◌, ◌+◌, ◌*◌, ◌<◌, ◌≤◌, length, drop};
 ghost use Rattle.lists.specs.Lists.{splice};
 ghost use Rattle.model.specs.Driving.{digit, digits_of, shown};

@@ -1,5 +1,7 @@
 // The units of a back-end bucket. Their bytes are laid in place on the disk by the code that has them, all at one go: the laws of `proofs/Spliced` say
 // that this is the run of unit stores, one by one in rising order, cut where the allowance ends.
+#![tactic(auto)]
+
 ghost use Rattle.std.specs.Prelude.{◌≡◌, ◌+◌, ◌*◌, ◌<◌};
 ghost use Rattle.model.specs.Sizes.{bucket_size};
 ghost use Rattle.model.proofs.Limits.{Limits};

@@ -1,4 +1,6 @@
 // Which Write bucket gives way to a log.
+#![tactic(auto)]
+
 ghost use Rattle.std.specs.Prelude.{◌≡◌, true, ◌≤◌, ◌<◌, take, drop, get_or};
 ghost use Rattle.lists.specs.Lists.{all};
 ghost use Rattle.model.specs.State.{caches, is_below};

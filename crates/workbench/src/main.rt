@@ -1,4 +1,6 @@
 // The workbench: every entry of the engine driven by lines of hexadecimal digits, with state, chip and disk shown, or put there.
+#![tactic(auto)]
+
 mod asks;
 mod bench;
 mod fields;

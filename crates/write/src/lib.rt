@@ -1,4 +1,6 @@
 // The write.
+#![tactic(auto)]
+
 ghost use Rattle.std.specs.Prelude.{◌≡◌, [], length};
 ghost use Rattle.model.specs.Operations.{make_way, write};
 ghost use Rattle.model.specs.Calls.{write_call, carry_out, call};
