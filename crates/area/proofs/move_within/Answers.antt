@@ -9,8 +9,7 @@ use lib.Seq.{take-suc, get_or-drop}
 use Rattle.lists.specs.Lists.{part, splice}
 use Rattle.lists.proofs.Parts.{length-part-fits, get_d_splice_before, get_d_splice_after}
 use Rattle.lists.proofs.Splices.{splice-none, splice_one, splice_next}
-use Rattle.area.proofs.move_within.Statement.{statement}
-use Rattle.area.proofs.move_within.Tie as tie
+use Rattle.area.proofs.move_within.Goals as goal
 
 module _ (l : List ℕ) (from to count : ℕ) (source : from + count ≤ length l) (target : to + count ≤ length l) (apart : (from + count ≤ to) ⊎ (to + count ≤ from)) where
   -- i bytes were copied
@@ -45,65 +44,19 @@ module _ (l : List ℕ) (from to count : ℕ) (source : from + count ≤ length 
         ∙ splice_next l to (part l from i) (byte ∷ []) (omega (arith, copied))
         ∙ ap (splice l to) one_more)
 
-abbrev invariant-loop : tie.invariant-loop
-invariant-loop area₀ from to count i₀ area i = (i ≤ count) × (length area ≡ length area₀) × (area ≡ splice area₀ to (part area₀ from i))
-
-abbrev decreases-loop : tie.decreases-loop
-decreases-loop area₀ from to count i₀ area i = count - i
-
-loop-holds : tie.Need-loop-init invariant-loop decreases-loop
+pub loop-i-init : goal.loop-i-init
 unfolding part
-loop-holds c = (omega arith, refl, sym (splice-none c.args.area.now c.args.to))
+loop-i-init c = (omega arith, refl, sym (splice-none c.args.area.now c.args.to))
 
-add-area : tie.Need-overflow-add-area invariant-loop decreases-loop
-add-area c = omega arith
-
-slice-read-area : tie.Need-slice-read-area invariant-loop decreases-loop
-slice-read-area c = omega arith
-
-add-area-2 : tie.Need-overflow-add-area-2 invariant-loop decreases-loop
-add-area-2 c = omega arith
-
-slice-write-area : tie.Need-slice-write-area invariant-loop decreases-loop
-slice-write-area c = omega arith
-
-add-i : tie.Need-overflow-add-i invariant-loop decreases-loop
-add-i c = omega arith
-
-loop-less : tie.Need-loop-smaller invariant-loop decreases-loop
-loop-less c = omega arith
-
-loop-again : tie.Need-loop-preserved invariant-loop decreases-loop
-loop-again c =
-    let start = c.before.before.before in
+pub loop-i-preserved : goal.loop-i-preserved
+loop-i-preserved c = let start = c in
     let x = start.args in
-    let l = c.before.before.loop in
+    let l = c.loop-i in
     let len = sym (ap length l.invariant.2) ∙ l.invariant.1 in
-    (omega arith, simp length-set (omega arith), rw l.invariant.2 (moved_more x.area.now x.from x.to x.count start.requires.0 start.requires.1.0 start.requires.1.1 l.i (omega arith) len))
+    (omega arith, simp length-set (omega arith), rw l.invariant.2 (moved_more x.area.now x.from x.to x.count start.requires.count_in_bounds start.requires.count_in_bounds_2 start.requires.fact l.i (omega arith) len))
 
-same_length : tie.Need-same-length invariant-loop decreases-loop
-same_length c = omega arith
-
-returns : tie.Need-returns invariant-loop decreases-loop
-returns c =
-    let x = c.before.before.args in
-    let l = c.before.loop in
+pub returns : goal.returns
+returns c = let x = c.args in
+    let l = c.loop-i in
     let all : l.i ≡ x.count = omega arith in
     rw all at l.invariant.2
-
-pub move-within-spec : {M : Type 1} → statement M
-move-within-spec =
-    tie.close
-    (tie.spec
-    invariant-loop
-    decreases-loop
-    loop-holds
-    add-area
-    slice-read-area
-    add-area-2
-    slice-write-area
-    add-i
-    loop-less
-    loop-again
-    same_length
-    returns)
