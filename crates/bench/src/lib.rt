@@ -14,7 +14,7 @@ use state::State;
 const PLENTY: usize = 65535;
 
 // The state reached, and the stores made on the way.
-#[derive(Drop)]
+#[derive(Clone, Copy)]
 struct Run {
     state: State,
     stores: usize,

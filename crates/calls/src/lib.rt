@@ -18,7 +18,7 @@ use outcome::Outcome;
 use state::State;
 
 // What the entry handed back, and how many bytes of the lent buffer are the call's own.
-#[derive(Drop)]
+#[derive(Clone, Copy)]
 pub struct Made {
     pub outcome: Outcome,
     pub read: usize,
@@ -152,7 +152,7 @@ pub fn make(
 }
 
 // How many bytes hold chip data, spare areas and disk.
-#[derive(Drop)]
+#[derive(Clone, Copy)]
 pub struct Lengths {
     pub flash: usize,
     pub spare: usize,

@@ -19,7 +19,7 @@ use model::Sizes;
 pub const NOWHERE: u16 = 65535;
 
 // What a bucket may be, by itself.
-#[derive(Drop)]
+#[derive(Clone, Copy)]
 pub enum Kind {
     Used,
     // all its pages are blank

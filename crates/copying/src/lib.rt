@@ -25,7 +25,7 @@ use state::State;
 use steps::Turn;
 
 // Where an allocation puts its log: with an empty free queue, into the GC head, which is erased first.
-#[derive(Drop)]
+#[derive(Clone, Copy)]
 pub struct Room {
     pub erase: bool,
     pub bucket: usize,

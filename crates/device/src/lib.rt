@@ -11,7 +11,7 @@ ghost use Rattle.device.specs.Made.{made, Placed, begins_at, Names};
 
 use model::Sizes;
 
-#[derive(Drop)]
+#[derive(Clone, Copy)]
 pub enum Store {
     Program { bucket: usize, page: usize },
     Erase { bucket: usize },

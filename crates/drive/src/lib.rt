@@ -28,7 +28,7 @@ pub const DISK: usize = 16384;
 pub const LONGEST_TEXT: usize = 32775;
 
 // What the program holds from line to line beside its arrays; the sizes are those of the last Done format, if there was one.
-#[derive(Drop)]
+#[derive(Clone, Copy)]
 pub struct Recorder {
     pub state: State,
     pub formatted: bool,
@@ -51,7 +51,7 @@ impl Recorder {
 }
 
 // The recorder after a line, and how many characters were printed of it.
-#[derive(Drop)]
+#[derive(Clone, Copy)]
 pub struct Printed {
     pub recorder: Recorder,
     pub length: usize,
@@ -164,7 +164,7 @@ fn format_unmade(z: Sizes) -> u8
 }
 
 // What a line asks for: the number printed of it if it makes no call, or 0; the sizes of its call; whether that is a format.
-#[derive(Drop)]
+#[derive(Clone, Copy)]
 pub struct Asked {
     pub unmade: u8,
     pub sizes: Sizes,

@@ -7,7 +7,7 @@ ghost use Rattle.lists.specs.Lists.{below, head};
 ghost use Rattle.lists.specs.Arrays.{joined, padded};
 ghost use Rattle.fifo.specs.View.{list_of, fifo_of};
 
-#[derive(Drop)]
+#[derive(Clone, Copy)]
 pub struct Fifo {
     pub items: [u8; 256],
     pub len: usize,

@@ -26,14 +26,14 @@ const DRAIN: usize = 5;
 const RECOVER: usize = 6;
 
 // The data of a write: the byte of the frame where they begin, and how many they are.
-#[derive(Drop)]
+#[derive(Clone, Copy)]
 pub struct Data {
     pub at: usize,
     pub length: usize,
 }
 
 // What a line asks for, with its allowance of stores. Bad is the paper's F0.
-#[derive(Drop)]
+#[derive(Clone, Copy)]
 pub enum Request {
     Bad,
     Format {

@@ -32,7 +32,7 @@ pub fn piece_range(area: &[u8], size: usize, index: usize, from: usize, window: 
 }
 
 // The Write bucket of b, as a list of none or of one.
-#[derive(Drop)]
+#[derive(Clone, Copy)]
 pub struct Logs {
     pub list: [u8; 1],
     pub count: usize,

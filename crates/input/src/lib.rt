@@ -10,7 +10,7 @@ ghost use Rattle.input.specs.Ahead.{ahead, closer, Sound};
 use drive::Recorder;
 
 // How far the program has come.
-#[derive(Drop)]
+#[derive(Clone, Copy)]
 pub struct Walk {
     pub recorder: Recorder,
     // the bytes held of a line that is not whole yet

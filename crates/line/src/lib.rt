@@ -7,7 +7,7 @@ ghost use Rattle.model.specs.Driving.{bytes_of};
 ghost use Rattle.line.specs.Field.{field_at, at_start, behind};
 
 // The line, the byte of its frame where the walk stands, and the field that ends there.
-#[derive(Drop)]
+#[derive(Clone, Copy)]
 pub struct Line<'a> {
     pub text: &'a [u8],
     pub at: usize,

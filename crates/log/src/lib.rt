@@ -16,7 +16,7 @@ use model::Sizes;
 use spare::Fields;
 
 // Where a log goes, from page `first` of a cache bucket on, and what its spare bytes say.
-#[derive(Drop)]
+#[derive(Clone, Copy)]
 pub struct Log {
     pub bucket: usize,
     pub first: usize,

@@ -10,7 +10,7 @@ ghost use Rattle.meter.specs.Run.{running, allowed, spent, step};
 use device::Store;
 use model::Sizes;
 
-#[derive(Drop)]
+#[derive(Clone, Copy)]
 pub struct Meter {
     pub left: usize,
     pub cut: bool,

@@ -31,7 +31,7 @@ pub const NO_FRAME: u8 = 0xF0;
 pub const NO_ROOM: u8 = 0xF1;
 
 // Document 01's S, P, C, B, R and W.
-#[derive(Drop)]
+#[derive(Clone, Copy)]
 pub struct Sizes {
     pub s: usize,
     pub p: usize,
@@ -43,7 +43,7 @@ pub struct Sizes {
 
 // A record of the read or the write queue. The priority, the blank pages of its bucket and the mark, that its logs are all in the read bucket, are of
 // the write queue alone.
-#[derive(Drop)]
+#[derive(Clone, Copy)]
 pub struct Entry {
     pub back: u16,
     pub cache: u8,
@@ -52,7 +52,7 @@ pub struct Entry {
     pub marked: bool,
 }
 
-#[derive(Drop)]
+#[derive(Clone, Copy)]
 pub enum Answer {
     Done,
     Idle,
@@ -61,14 +61,14 @@ pub enum Answer {
 }
 
 // The back-end bucket whose Write bucket gives way.
-#[derive(Drop)]
+#[derive(Clone, Copy)]
 pub enum Victim {
     Nobody,
     Bucket(u16),
 }
 
 // What a write would do: what it answers, the stores that it makes, whose Write bucket it sends to GC, and the next epoch that it leaves.
-#[derive(Drop)]
+#[derive(Clone, Copy)]
 pub struct Preview {
     pub answer: Answer,
     pub stores: usize,

@@ -128,7 +128,7 @@ pub fn erase_noted(
 }
 
 // What an erase with its entry comes to: its stores, and the blank pages that the ledger bucket in use has then.
-#[derive(Drop)]
+#[derive(Clone, Copy)]
 pub struct Cost {
     pub stores: usize,
     pub room: usize,

@@ -9,7 +9,7 @@ use meter::Meter;
 use model::Answer;
 use state::State;
 
-#[derive(Drop)]
+#[derive(Clone, Copy)]
 pub struct Outcome {
     pub answer: Answer,
     pub stores: usize,

@@ -15,7 +15,7 @@ ghost use Rattle.overlay.specs.Runs.{Lays, EndsBy, Runs, Laid, lent_over, Moves,
 use model::Sizes;
 
 // The bytes of the whole that a log covers, from `low` up to `high`, and where they lie in the flash.
-#[derive(Drop)]
+#[derive(Clone, Copy)]
 pub struct Extent {
     pub low: usize,
     pub high: usize,
@@ -23,7 +23,7 @@ pub struct Extent {
 }
 
 // The bytes of the whole from `start` on; if a log covers them, they lie in the flash from `at` on.
-#[derive(Drop)]
+#[derive(Clone, Copy)]
 pub struct Run {
     pub covered: bool,
     pub at: usize,

@@ -12,14 +12,14 @@ ghost use Rattle.queue.specs.View.{entries_of, no_entry, queue_of, index_of};
 
 use model::Entry;
 
-#[derive(Drop)]
+#[derive(Clone, Copy)]
 pub struct Queue {
     pub items: [Entry; 64],
     pub len: usize,
 }
 
 // Whether a back-end bucket is in a queue, its cache bucket and the blank pages kept there, 0 where there is none, and its mark.
-#[derive(Drop)]
+#[derive(Clone, Copy)]
 pub struct Found {
     pub held: bool,
     pub cache: u8,

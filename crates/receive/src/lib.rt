@@ -21,7 +21,7 @@ const PAGES: usize = 16384;
 const HEAD: usize = 19;
 
 // The number of the first faulty line, or 0 where none is faulty, and how many lines stand before it.
-#[derive(Drop)]
+#[derive(Clone, Copy)]
 pub struct Fault {
     pub number: u8,
     pub before: usize,

@@ -29,7 +29,7 @@ use queue::Queue;
 use state::State;
 
 // Recovery behind its erases: the whole allowance, what is left of it, and the next epoch.
-#[derive(Drop)]
+#[derive(Clone, Copy)]
 struct Begun {
     allowance: usize,
     meter: Meter,

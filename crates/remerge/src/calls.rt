@@ -11,14 +11,14 @@ use state::State;
 // Never cuts: no call makes as many stores.
 const PLENTY: usize = 65535;
 
-#[derive(Drop)]
+#[derive(Clone, Copy)]
 pub struct Run {
     pub state: State,
     pub seed: u32,
     pub cut: bool,
 }
 
-#[derive(Drop)]
+#[derive(Clone, Copy)]
 struct Call {
     kind: usize,
     b: u16,

@@ -13,7 +13,7 @@ use model::Sizes;
 // Windows over the same bytes.
 const WINDOWS: usize = 6;
 
-#[derive(Drop)]
+#[derive(Clone, Copy)]
 pub struct Window {
     pub from: usize,
     pub length: usize,

@@ -14,7 +14,7 @@ use model::Sizes;
 const CHIP: usize = 32768;
 
 // The first bytes of the cache bucket `target`, over those of the cache bucket `base`.
-#[derive(Drop)]
+#[derive(Clone, Copy)]
 pub struct Place {
     pub base: usize,
     pub target: usize,

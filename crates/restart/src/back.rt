@@ -8,7 +8,7 @@ use state::State;
 
 // The stores of the whole recovery, the erases that stopped halfway, the pages that were spoiled, and whether every byte read is that of the
 // plain disk.
-#[derive(Drop)]
+#[derive(Clone, Copy)]
 pub struct Back {
     pub stores: usize,
     pub torn: usize,
@@ -38,7 +38,7 @@ impl Back {
     }
 }
 
-#[derive(Drop)]
+#[derive(Clone, Copy)]
 struct Recovered {
     state: State,
     stores: usize,
@@ -46,7 +46,7 @@ struct Recovered {
     cut: bool,
 }
 
-#[derive(Drop)]
+#[derive(Clone, Copy)]
 struct Read {
     state: State,
     same: bool,

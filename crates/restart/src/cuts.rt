@@ -9,14 +9,14 @@ use crate::{back, pages, run, spoil, tear};
 use model::Sizes;
 
 // A cut call, and what the restart behind it came to.
-#[derive(Drop)]
+#[derive(Clone, Copy)]
 struct Way {
     run: Run,
     back: Back,
 }
 
 // The store that came next: the first page that it blanked and the page that it programmed, PAGES where it did not, and what it programmed there.
-#[derive(Drop)]
+#[derive(Clone, Copy)]
 struct Next {
     blanked: usize,
     programmed: usize,

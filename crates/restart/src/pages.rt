@@ -7,7 +7,7 @@ use model::Sizes;
 pub const PAGES: usize = 48;
 
 // The spare bytes of a page and its data bytes, as many as the longest page has.
-#[derive(Drop)]
+#[derive(Clone, Copy)]
 pub struct Page {
     pub tag: [u8; 16],
     pub data: [u8; 16],

@@ -3,7 +3,7 @@ use crate::{plain, row};
 use model::{Answer, Sizes};
 use state::State;
 
-#[derive(Drop)]
+#[derive(Clone, Copy)]
 pub struct Run {
     pub state: State,
     pub plain: [u8; 256],

@@ -18,7 +18,7 @@ use model::{Answer, Sizes};
 const HEAD: usize = 19;
 
 // The text's length is 0 with a refusal.
-#[derive(Drop)]
+#[derive(Clone, Copy)]
 pub struct Written {
     pub answer: Answer,
     pub length: usize,

@@ -13,7 +13,7 @@ pub const NO_KIND: u8 = 255;
 pub const SPOILED_KIND: u8 = 0;
 
 // What the spare bytes of a programmed page say. `last` is the log's length less one.
-#[derive(Drop)]
+#[derive(Clone, Copy)]
 pub struct Fields {
     pub kind: u8,
     pub ordinal: u8,
@@ -25,7 +25,7 @@ pub struct Fields {
 }
 
 // What a page is by its spare bytes.
-#[derive(Drop)]
+#[derive(Clone, Copy)]
 pub enum Seen {
     Blank,
     Spoiled,

@@ -17,7 +17,7 @@ use model::Sizes;
 use queue::Queue;
 
 // The queues stand first and the single bytes last: a copy of the state is then made of aligned parts.
-#[derive(Drop)]
+#[derive(Clone, Copy)]
 pub struct State {
     pub reads: Queue,
     pub writes: Queue,

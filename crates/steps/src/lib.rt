@@ -13,7 +13,7 @@ use meter::Meter;
 use state::State;
 
 // The allowance and the state that the steps so far leave.
-#[derive(Drop)]
+#[derive(Clone, Copy)]
 pub struct Turn {
     pub meter: Meter,
     pub state: State,

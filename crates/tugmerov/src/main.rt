@@ -17,14 +17,14 @@ use streams::Got;
 const LINE_ROOM: usize = 513;
 
 // How far the program has come, and how many characters `write` took on the way: by their number the contracts say which they were.
-#[derive(Drop)]
+#[derive(Clone, Copy)]
 struct Told {
     walk: Walk,
     written: usize,
 }
 
 // Where the program stopped, and whether at the end of the input.
-#[derive(Drop)]
+#[derive(Clone, Copy)]
 struct Came {
     walk: Walk,
     ended: bool,

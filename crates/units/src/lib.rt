@@ -12,7 +12,7 @@ use meter::Meter;
 use model::Sizes;
 
 // A part of the disk.
-#[derive(Drop)]
+#[derive(Clone, Copy)]
 pub struct Part {
     pub at: usize,
     pub end: usize,

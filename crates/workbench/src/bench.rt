@@ -38,14 +38,14 @@ const SEND: u8 = 0x30;
 const RECEIVE: u8 = 0x31;
 
 // The driving program's recorder, and by how many bytes the next call is lent less.
-#[derive(Drop)]
+#[derive(Clone, Copy)]
 pub struct Bench {
     pub recorder: Recorder,
     pub less: Lengths,
 }
 
 // What a line leaves, and how many characters are printed of it.
-#[derive(Drop)]
+#[derive(Clone, Copy)]
 pub struct Answered {
     pub bench: Bench,
     pub length: usize,

@@ -25,7 +25,7 @@ const LINE_ROOM: usize = 8193;
 const TEXT_ROOM: usize = 262159;
 
 // How far the program has come: the bytes held of a line that is not whole yet, and whether the output failed.
-#[derive(Drop)]
+#[derive(Clone, Copy)]
 struct Walk {
     bench: Bench,
     held: usize,
@@ -33,7 +33,7 @@ struct Walk {
 }
 
 // Where the program stopped, and whether at the end of the input.
-#[derive(Drop)]
+#[derive(Clone, Copy)]
 struct Came {
     walk: Walk,
     ended: bool,

@@ -9,7 +9,7 @@ use model::Sizes;
 pub const NO_PLACE: u8 = 6;
 
 // The place's number among all, or 0 where there is no such place: the bounds of its bytes hold for either.
-#[derive(Drop)]
+#[derive(Clone, Copy)]
 pub struct Place {
     pub there: bool,
     pub number: usize,
