@@ -1,0 +1,34 @@
+use mathlib.Core.Logic.{⊎_elim}
+use mathlib.Core.Path.{◌≡◌, refl, sym, ◌∙◌}
+use Prim.Native.Nat.{◌-◌}
+use native.Mathlib.Omega.{arith}
+use Rattle.image.specs.Chip.{spare_only}
+use Rattle.model.specs.Image.{page_blank, blanks}
+use Rattle.lists.proofs.Turns.{count_more, count_same}
+use Rattle.lists.proofs.Rows.{count_le}
+use Rattle.lists.specs.Lists.{count_below}
+use Rattle.image.proofs.blanks.Goals as goal
+
+pub loop-k-init : goal.loop-k-init
+unfolding count_below
+loop-k-init c = (omega arith, refl)
+
+pub overflow_add-count : goal.overflow_add-count
+overflow_add-count c = let a = c.args in omega (arith, count_le c.loop-k.k (page_blank a.z (spare_only a.spare.now) a.c))
+
+pub loop-k-preserved : goal.loop-k-preserved
+loop-k-preserved c = let l = c.loop-k in
+    let a = c.args in
+    let t = page_blank a.z (spare_only a.spare.now) a.c in
+    let e = sym c.page_blank.ensures in (
+      omega arith,
+      ⊎_elim
+          (λ w. w.1 ∙ rw (l.invariant.1, count_more l.k t (e ∙ w.0.taken)))
+          (λ w. w.1 ∙ rw (l.invariant.1, count_same l.k t (e ∙ w.0.left)))
+          c.if-page_blank.branch,
+    )
+
+pub returns : goal.returns
+unfolding blanks
+returns c = let e : c.loop-k.k ≡ c.args.z.p = omega arith in
+    rw e at c.loop-k.invariant.1

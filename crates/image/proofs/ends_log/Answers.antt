@@ -1,0 +1,19 @@
+use Rattle.model.specs.Image.{ends_log}
+use Rattle.model.specs.Sizes.{page_index}
+use Rattle.model.specs.Stores.{tag_of}
+use Rattle.image.proofs.Place.{page_inside}
+use native.Mathlib.Omega.{arith}
+use Rattle.image.proofs.ends_log.Goals as goal
+
+pub overflow_mul-c : goal.overflow_mul-c
+overflow_mul-c c = omega (arith, page_inside c.requires.chip c.requires.c_lt_c c.requires.k_lt_p)
+
+pub overflow_add-c : goal.overflow_add-c
+overflow_add-c c = omega (arith, page_inside c.requires.chip c.requires.c_lt_c c.requires.k_lt_p)
+
+pub ends_at-requires : goal.ends_at-requires
+ends_at-requires c = page_inside c.requires.chip c.requires.c_lt_c c.requires.k_lt_p
+
+pub returns : goal.returns
+unfolding ends_log tag_of page_index
+returns c = c.ends_at.ensures

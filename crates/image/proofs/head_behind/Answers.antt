@@ -1,0 +1,48 @@
+use native.Mathlib.Omega.{arith}
+use Prim.Native.Nat.{◌-◌}
+use mathlib.Core.Path.{refl, sym, ◌∙◌}
+use mathlib.Core.Bool.{true}
+use borrow.Author.Tests.{eqb-true, eq-eqb}
+use Rattle.lists.proofs.Tests.{and-true}
+use Rattle.lists.proofs.Turns.{all_more}
+use Rattle.lists.proofs.Rows.{all-below}
+use Rattle.lists.specs.Lists.{all_below}
+use Rattle.model.specs.Spare.{spoiled}
+use Rattle.model.specs.Stores.{tag_of}
+use Rattle.model.specs.Sizes.{page_index}
+use Rattle.model.specs.Image.{page_spoiled}
+use Rattle.image.specs.Chip.{spare_only}
+use Rattle.image.proofs.First.{head_at}
+use Rattle.image.proofs.Place.{page_inside}
+use Rattle.image.proofs.head_behind.Goals as goal
+
+pub overflow_sub-last : goal.overflow_sub-last
+overflow_sub-last c = omega (arith, c.requires.chip.limits.p_low)
+
+pub loop-k-init : goal.loop-k-init
+unfolding all_below
+loop-k-init c = (omega arith, refl)
+
+pub overflow_mul-c : goal.overflow_mul-c
+overflow_mul-c c = let p = c.requires in omega (arith, page_inside {k = c.loop-k.k} p.chip p.c_lt_c (omega arith))
+
+pub overflow_add-c : goal.overflow_add-c
+overflow_add-c c = let p = c.requires in omega (arith, page_inside {k = c.loop-k.k} p.chip p.c_lt_c (omega arith))
+
+pub kind_at-requires : goal.kind_at-requires
+kind_at-requires c = let p = c.requires in page_inside p.chip p.c_lt_c (omega arith)
+
+pub returns-then-kind_at-ne-SPOILED_KIND : goal.returns-then-kind_at-ne-SPOILED_KIND
+unfolding page_spoiled spoiled tag_of page_index
+returns-then-kind_at-ne-SPOILED_KIND c = let a = c.args in let d = spare_only a.spare.now in let l = c.loop-k in
+    head_at a.z d a.c l.k (omega arith) (all-below l.k (page_spoiled a.z d a.c) l.invariant.1) (λ e. absurd (c.if-kind_at-ne-SPOILED_KIND.true (c.kind_at.ensures ∙ eqb-true _ 0 e)))
+
+pub loop-k-preserved : goal.loop-k-preserved
+unfolding page_spoiled spoiled tag_of page_index
+loop-k-preserved c = let a = c.args in let l = c.loop-k in
+    (omega arith, all_more l.k (page_spoiled a.z (spare_only a.spare.now) a.c) ∙ and-true l.invariant.1 (eq-eqb _ 0 (sym c.kind_at.ensures ∙ c.if-kind_at-ne-SPOILED_KIND.false)))
+
+pub returns : goal.returns
+unfolding page_spoiled
+returns c = let a = c.args in let d = spare_only a.spare.now in let l = c.loop-k in
+    head_at a.z d a.c l.k (omega (arith, c.requires.chip.limits.p_low)) (all-below l.k (page_spoiled a.z d a.c) l.invariant.1) (λ e. omega arith)

@@ -1,0 +1,18 @@
+-- `text::show` meets its contract.
+use mathlib.Core.Path.{◌≡◌, sym}
+use native.Mathlib.Omega.{arith}
+use lib.ListN.{length, length-set}
+use Rattle.text.proofs.Shown.{shown-length, put_shown}
+use Rattle.text.proofs.show.Goals as goal
+
+pub shape_of-out : goal.shape_of-out
+shape_of-out c = let start = c in
+    let e : length c.put_bytes-2.new.0 ≡ length start.args.out.now = omega arith in
+    simp length-set e
+
+pub returns : goal.returns
+returns c = let start = c in
+    let a = c.args in (
+      sym (shown-length a.answer a.stores a.bytes.now),
+      rw (c.put_bytes-2.ensures, c.put_bytes.ensures) (put_shown a.answer a.stores a.bytes.now a.out.now start.requires.bytes_in_bounds),
+    )
