@@ -1,4 +1,3 @@
-use mathlib.Core.Logic.{⊎_elim}
 use mathlib.Core.Path.{◌≡◌, refl, sym, ◌∙◌}
 use Prim.Native.Nat.{◌-◌}
 use native.Mathlib.Omega.{arith}
@@ -8,6 +7,7 @@ use Rattle.lists.proofs.Turns.{count_more, count_same}
 use Rattle.lists.proofs.Rows.{count_le}
 use Rattle.lists.specs.Lists.{count_below}
 use Rattle.image.proofs.blanks.Goals as goal
+use Rattle.image.proofs.blanks.Goals.{then-page_blank, else-page_blank}
 
 pub loop-k-init : goal.loop-k-init
 unfolding count_below
@@ -22,10 +22,10 @@ loop-k-preserved c = let l = c.loop-k in
     let t = page_blank a.z (spare_only a.spare.now) a.c in
     let e = sym c.page_blank.ensures in (
       omega arith,
-      ⊎_elim
-          (λ w. w.1 ∙ rw (l.invariant.1, count_more l.k t (e ∙ w.0.taken)))
-          (λ w. w.1 ∙ rw (l.invariant.1, count_same l.k t (e ∙ w.0.left)))
-          c.if-page_blank.branch,
+      elim c.if-page_blank.branch [
+        | then-page_blank w ↦ w.count-is ∙ rw (l.invariant.1, count_more l.k t (e ∙ w.if-page_blank.true))
+        | else-page_blank w ↦ w.count-is ∙ rw (l.invariant.1, count_same l.k t (e ∙ w.if-page_blank.false))
+      ],
     )
 
 pub returns : goal.returns
