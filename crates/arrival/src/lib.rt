@@ -12,7 +12,7 @@ ghost use Rattle.state.specs.View.{places_of};
 ghost use Rattle.steps.specs.Turns.{reached, after};
 ghost use Rattle.arrival.specs.Arrives.{kept_fits, Appends, Starts};
 
-use log::Log;
+use log_pages::Log;
 use meter::Meter;
 use state::State;
 use steps::Turn;
@@ -60,7 +60,7 @@ pub fn append_log(
         back: b,
         offset,
     };
-    let left = log::program_log(meter, z, target, bytes, flash, spare, disk);
+    let left = log_pages::program_log(meter, z, target, bytes, flash, spare, disk);
     let state = s.accept(b, rest);
     Turn { meter: left, state }
 }

@@ -19,9 +19,9 @@ use Rattle.geometry.specs.Geometry.{Lent}
 use Rattle.geometry.proofs.Places.{bucket_data, bucket_spare}
 use Rattle.meter.specs.declared.Meter.{Meter}
 use Rattle.meter.specs.Run.{running, allowed, spent, run_all}
-use Rattle.log.specs.declared.Log.{Log}
-use Rattle.log.specs.Logs.{tags, all_stores}
-use Rattle.log.proofs.Spliced.{pages_spliced}
+use Rattle.log_pages.specs.declared.Log.{Log}
+use Rattle.log_pages.specs.Logs.{tags, all_stores}
+use Rattle.log_pages.proofs.Spliced.{pages_spliced}
 
 module _ (z : Sizes) (limits : Limits z) (log : Log) (begins : log.first ≡ 0) (inside : log.bucket < z.c) (bytes : List ℕ) (size : length bytes ≡ bucket_size z) where
   all-pages : pages_for z (length bytes) ≡ z.p

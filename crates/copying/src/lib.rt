@@ -10,14 +10,14 @@ ghost use Rattle.model.specs.Steps.{merged, copy};
 ghost use Rattle.model.proofs.Limits.{Limits};
 ghost use Rattle.geometry.specs.Geometry.{device, Lent};
 ghost use Rattle.meter.specs.Run.{running, run_all};
-ghost use Rattle.log.specs.Logs.{all_stores};
+ghost use Rattle.log_pages.specs.Logs.{all_stores};
 ghost use Rattle.state.specs.View.{places_of};
 ghost use Rattle.steps.specs.Turns.{reached, after};
 ghost use Rattle.gather.specs.Sources.{Sources};
 ghost use Rattle.copying.specs.Fresh.{room_of, Takes, erases, fresh_stores, Copies, Single};
 ghost use Rattle.copying.specs.Laid.{listed_bytes, Laid};
 
-use log::Log;
+use log_pages::Log;
 use meter::Meter;
 use model::Sizes;
 use queue::Found;
@@ -107,7 +107,7 @@ pub fn fresh_log(
 {
     let erased = erase_room(meter, z, room, flash, spare, disk);
     let target = log_in(room, kind, b, offset);
-    log::program_log(erased, z, target, bytes, flash, spare, disk)
+    log_pages::program_log(erased, z, target, bytes, flash, spare, disk)
 }
 
 // Lays so many bytes of b into the bucket: the logs of the listed buckets over the read bucket or the disk.
@@ -165,7 +165,7 @@ fn fill_room(
         spare,
         disk,
     );
-    log::write_tags(z, target, z.p * z.s, pages, spare);
+    log_pages::write_tags(z, target, z.p * z.s, pages, spare);
     meter::spent(meter, z.p)
 }
 

@@ -17,7 +17,7 @@ use Rattle.model.specs.Image.{epoch_of, blanks}
 use Rattle.model.specs.Ledger.{in_use, other_of}
 use Rattle.model.specs.Steps.{log_store, log_stores, entry_store, entry_stores}
 use Rattle.model.proofs.Limits.{Limits}
-use Rattle.log.proofs.Pages.{front_ff}
+use Rattle.log_pages.proofs.Pages.{front_ff}
 use Rattle.image.specs.Chip.{spare_only}
 use Rattle.image.proofs.SameSpare.{same-blanks, same-epoch}
 

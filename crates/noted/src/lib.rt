@@ -15,7 +15,7 @@ ghost use Rattle.meter.specs.Run.{running, run_all};
 ghost use Rattle.image.specs.Chip.{Chip, spare_only};
 ghost use Rattle.noted.specs.Costs.{Costs};
 
-use log::Log;
+use log_pages::Log;
 use meter::Meter;
 use model::Sizes;
 
@@ -81,7 +81,7 @@ fn program_entry(
         back: bucket as u16,
         offset: 0,
     };
-    log::program_log(meter, z, entry, &byte, flash, spare, disk)
+    log_pages::program_log(meter, z, entry, &byte, flash, spare, disk)
 }
 
 // The entry; a full ledger bucket is erased once the other has it.

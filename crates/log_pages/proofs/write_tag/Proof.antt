@@ -4,9 +4,9 @@ use lib.ListN.{length}
 use Rattle.model.specs.Sizes.{page_index}
 use Rattle.geometry.proofs.Places.{page_spare}
 use borrow.Author.Rules.{rules}
-use Rattle.log.proofs.Tagged.{tag-length}
-use Rattle.log.proofs.write_tag.Statement.{statement}
-use Rattle.log.proofs.write_tag.Tie as tie
+use Rattle.log_pages.proofs.Tagged.{tag-length}
+use Rattle.log_pages.proofs.write_tag.Statement.{statement}
+use Rattle.log_pages.proofs.write_tag.Tie as tie
 
 -- the page's spare bytes lie within the area
 inside : (c : tie.Start) → (c.args.log.bucket * c.args.z.p + (c.args.log.first + c.args.o)) * 16 + 16 ≤ length c.args.spare.now

@@ -16,10 +16,10 @@ use Rattle.geometry.specs.Geometry.{device}
 use Rattle.meter.specs.declared.Meter.{Meter}
 use Rattle.meter.specs.Run.{running, allowed, spent, run_all}
 use Rattle.meter.proofs.Runs.{row_run}
-use Rattle.log.specs.Logs.{tags, page_store}
-use Rattle.log.specs.declared.Log.{Log}
-use Rattle.log.proofs.Pages.{page_whole}
-use Rattle.log.proofs.Tagged.{tags_more}
+use Rattle.log_pages.specs.Logs.{tags, page_store}
+use Rattle.log_pages.specs.declared.Log.{Log}
+use Rattle.log_pages.proofs.Pages.{page_whole}
+use Rattle.log_pages.proofs.Tagged.{tags_more}
 
 module _ (z : Sizes) (log : Log) (bytes flash spare disk : List ℕ) (m : Meter) where
   abbrev first : ℕ

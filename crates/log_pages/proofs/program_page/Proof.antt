@@ -2,10 +2,10 @@ use native.Mathlib.Omega.{arith}
 use Prim.Native.Nat.{◌*◌}
 use Rattle.model.specs.Steps.{log_store}
 use Rattle.lists.proofs.Lent.{lent_part}
-use Rattle.log.proofs.Pages.{small, page_begins, page_whole}
+use Rattle.log_pages.proofs.Pages.{small, page_begins, page_whole}
 use borrow.Author.Rules.{rules}
-use Rattle.log.proofs.program_page.Statement.{statement}
-use Rattle.log.proofs.program_page.Tie as tie
+use Rattle.log_pages.proofs.program_page.Statement.{statement}
+use Rattle.log_pages.proofs.program_page.Tie as tie
 
 mul-from : tie.Need-overflow-mul-from
 mul-from c = omega (arith, page_begins c.before.before.before.before.before.requires.1.0 c.before.before.before.before.before.args.o c.before.before.before.before.before.requires.1.1)

@@ -1,6 +1,6 @@
 use borrow.Author.Rules.{rules}
-use Rattle.log.proofs.program_lent.Statement.{statement}
-use Rattle.log.proofs.program_lent.Tie as tie
+use Rattle.log_pages.proofs.program_lent.Statement.{statement}
+use Rattle.log_pages.proofs.program_lent.Tie as tie
 
 page-fields-requires : tie.Need-page-fields-requires
 page-fields-requires c κs = search rules

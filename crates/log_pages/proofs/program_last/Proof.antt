@@ -1,9 +1,9 @@
-use Rattle.log.proofs.Pages.{front_ff}
+use Rattle.log_pages.proofs.Pages.{front_ff}
 use lib.ListN.{length-take}
 use native.Mathlib.Omega.{arith}
 use borrow.Author.Rules.{rules}
-use Rattle.log.proofs.program_last.Statement.{statement}
-use Rattle.log.proofs.program_last.Tie as tie
+use Rattle.log_pages.proofs.program_last.Statement.{statement}
+use Rattle.log_pages.proofs.program_last.Tie as tie
 
 array-borrow-prefix-page : tie.Need-array-borrow-prefix-page
 array-borrow-prefix-page c = search rules

@@ -9,8 +9,8 @@ use Rattle.lists.proofs.Splices.{splice_next}
 use Rattle.model.specs.declared.Sizes.{Sizes}
 use Rattle.model.specs.Sizes.{page_index}
 use Rattle.model.specs.Spare.{tag_bytes}
-use Rattle.log.specs.Logs.{page_tag, tags}
-use Rattle.log.specs.declared.Log.{Log}
+use Rattle.log_pages.specs.Logs.{page_tag, tags}
+use Rattle.log_pages.specs.declared.Log.{Log}
 
 module _ (z : Sizes) (log : Log) (n : ℕ) where
   pub tag-length : (o : ℕ) → length (page_tag z log n o) ≡ 16

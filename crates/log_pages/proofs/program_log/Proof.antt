@@ -1,5 +1,5 @@
-use Rattle.log.proofs.Pages.{small}
-use Rattle.log.specs.Logs.{page_store}
+use Rattle.log_pages.proofs.Pages.{small}
+use Rattle.log_pages.specs.Logs.{page_store}
 use Rattle.meter.proofs.Runs.{run_more}
 use Rattle.meter.specs.Run.{running, run_all}
 use Rattle.geometry.specs.Geometry.{Lent}
@@ -10,8 +10,8 @@ use native.Mathlib.Omega.{arith}
 use mathlib.Core.Path.{◌≡◌, refl}
 use lib.ListN.{length}
 use Prim.Native.Nat.{◌-◌, ◌≤◌}
-use Rattle.log.proofs.program_log.Statement.{statement}
-use Rattle.log.proofs.program_log.Tie as tie
+use Rattle.log_pages.proofs.program_log.Statement.{statement}
+use Rattle.log_pages.proofs.program_log.Tie as tie
 
 abbrev invariant-loop : tie.invariant-loop
 invariant-loop z log bytes flash₀ spare₀ disk₀ pages run₀ o₀ flash spare disk run o =

@@ -8,7 +8,7 @@ ghost use Rattle.lists.specs.Lists.{splice, ff};
 ghost use Rattle.spare.specs.Fields.{tag};
 ghost use Rattle.geometry.specs.Geometry.{Lent};
 ghost use Rattle.meter.specs.Run.{running, step, run_all};
-ghost use Rattle.log.specs.Logs.{page_tag, tags, store_of, page_store, all_stores, Fits};
+ghost use Rattle.log_pages.specs.Logs.{page_tag, tags, store_of, page_store, all_stores, Fits};
 
 use device::Store;
 use meter::Meter;

@@ -14,8 +14,8 @@ use Rattle.model.specs.Stores.{page_bytes}
 use Rattle.model.proofs.Limits.{pages_hold, pages_least}
 use Rattle.geometry.proofs.Passed.{products}
 use Rattle.geometry.proofs.Places.{nth_inside}
-use Rattle.log.specs.Logs.{Fits}
-use Rattle.log.specs.declared.Log.{Log}
+use Rattle.log_pages.specs.Logs.{Fits}
+use Rattle.log_pages.specs.declared.Log.{Log}
 
 -- the numbers of a log that fits: the code's casts and sums stay within their widths
 pub record Small (z : Sizes) (n : ℕ) : Type 0 where

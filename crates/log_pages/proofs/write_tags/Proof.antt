@@ -7,10 +7,10 @@ use Rattle.lists.specs.Lists.{splice}
 use Rattle.lists.proofs.Splices.{splice-none}
 use Rattle.model.specs.Sizes.{page_index}
 use Rattle.geometry.proofs.Places.{page_spare}
-use Rattle.log.specs.Logs.{tags}
-use Rattle.log.proofs.Tagged.{tags_more}
-use Rattle.log.proofs.write_tags.Statement.{statement}
-use Rattle.log.proofs.write_tags.Tie as tie
+use Rattle.log_pages.specs.Logs.{tags}
+use Rattle.log_pages.proofs.Tagged.{tags_more}
+use Rattle.log_pages.proofs.write_tags.Statement.{statement}
+use Rattle.log_pages.proofs.write_tags.Tie as tie
 
 abbrev invariant-loop : tie.invariant-loop
 invariant-loop z log n count spare₀ o₀ spare o =

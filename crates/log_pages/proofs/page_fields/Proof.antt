@@ -1,11 +1,11 @@
-use Rattle.log.proofs.Pages.{small}
+use Rattle.log_pages.proofs.Pages.{small}
 use Rattle.spare.specs.Fields.{tag}
 use native.Mathlib.Omega.{arith}
 use mathlib.Core.Path.{◌≡◌}
 use Prim.Native.Nat.{◌+◌, ◌-◌}
 use borrow.Author.Rules.{rules}
-use Rattle.log.proofs.page_fields.Statement.{statement}
-use Rattle.log.proofs.page_fields.Tie as tie
+use Rattle.log_pages.proofs.page_fields.Statement.{statement}
+use Rattle.log_pages.proofs.page_fields.Tie as tie
 
 pages-for-requires : tie.Need-pages-for-requires
 pages-for-requires c κs = (c.requires.0.limits, (small c.requires.0).bytes)

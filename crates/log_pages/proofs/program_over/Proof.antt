@@ -4,10 +4,10 @@ use Prim.Native.Nat.{◌*◌, ◌<◌}
 use native.Mathlib.Omega.{arith}
 use Rattle.lists.proofs.Parts.{length-ff}
 use Rattle.model.specs.Steps.{log_store}
-use Rattle.log.proofs.Pages.{page_begins, page_laid}
+use Rattle.log_pages.proofs.Pages.{page_begins, page_laid}
 use borrow.Author.Rules.{rules}
-use Rattle.log.proofs.program_over.Statement.{statement}
-use Rattle.log.proofs.program_over.Tie as tie
+use Rattle.log_pages.proofs.program_over.Statement.{statement}
+use Rattle.log_pages.proofs.program_over.Tie as tie
 
 begins : (c : tie.Start) → c.args.o * c.args.z.s < length c.args.bytes.now
 begins c = page_begins c.requires.1.0 c.args.o c.requires.1.1

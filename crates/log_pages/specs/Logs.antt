@@ -6,7 +6,7 @@ use Rattle.model.specs.Spare.{tag_bytes}
 use Rattle.model.specs.Stores.{Store, program}
 use Rattle.model.specs.Steps.{log_store, log_stores}
 use Rattle.model.proofs.Limits.{Limits}
-use Rattle.log.specs.declared.Log.{Log}
+use Rattle.log_pages.specs.declared.Log.{Log}
 
 module _ (z : Sizes) (log : Log) where
   -- the spare bytes of page o of a log of n bytes
