@@ -1,0 +1,8 @@
+-- `reading::byte_at` meets its contract.
+use mathlib.Core.Path.{sym}
+use native.Mathlib.Omega.{arith}
+use lib.ListN.{get_or-eq_default}
+use Rattle.form.proofs.reading.byte_at.Goals as goal
+
+pub returns-else-at-bytes : goal.returns-else-at-bytes
+returns-else-at-bytes c = sym (get_or-eq_default c.args.bytes.now 0 (omega arith))
