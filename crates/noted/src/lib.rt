@@ -135,7 +135,7 @@ pub struct Cost {
 }
 
 // Both counted, where the ledger bucket in use has so many blank pages.
-pub fn cost(z: Sizes, room: usize) -> Cost
+pub fn cost_of(z: Sizes, room: usize) -> Cost
     requires { Limits z }
     ensures { Costs z room result }
 {

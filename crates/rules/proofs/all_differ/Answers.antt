@@ -1,0 +1,36 @@
+use Rattle.rules.proofs.Slots.{alone_distinct, not_alone}
+use Rattle.rules.specs.Slots.{Alone}
+use mathlib.Core.List.{List}
+use mathlib.Core.Path.{◌≡◌, sym}
+use Prim.Native.Nat.{ℕ, ◌+◌, ◌-◌, ◌<◌}
+use native.Mathlib.Decide.{ℕ_discrete}
+use native.Mathlib.Omega.{arith}
+use Rattle.rules.proofs.all_differ.Goals as goal
+
+-- one more number
+more : (items slots : List ℕ) (i j : ℕ) → (j < i → Alone items slots j) → Alone items slots i → Dec (j ≡ i) → j < i + 1 → Alone items slots j
+more items slots i j all last (yes e) h = rw e last
+more items slots i j all last (no n) h = all (omega arith)
+
+pub fill_slots-requires : goal.fill_slots-requires
+fill_slots-requires c = c.requires
+
+pub loop-i-init : goal.loop-i-init
+loop-i-init c = (omega arith, λ j h. absurd (omega arith))
+
+pub stands_alone-requires : goal.stands_alone-requires
+stands_alone-requires c = record { len_bound = c.requires; i_in_bounds = c.loop-i-test.true }
+
+pub returns-then-not-stands_alone : goal.returns-then-not-stands_alone
+returns-then-not-stands_alone c = let start = c in
+    let l = c.loop-i in
+    sym (not_alone start.args.items.now l.i (omega arith) (c.stands_alone.ensures.1 (c.if-not-stands_alone.true)))
+
+pub loop-i-preserved : goal.loop-i-preserved
+loop-i-preserved c = let start = c in
+    let l = c.loop-i in
+    (omega arith, λ j h. more start.args.items.now c.fill_slots.new.slots l.i j (l.invariant.1 j) (c.stands_alone.ensures.0 (c.if-not-stands_alone.false)) (ℕ_discrete j l.i) h)
+
+pub returns : goal.returns
+returns c = let l = c.loop-i in
+    sym (alone_distinct c.args.items.now c.fill_slots.new.slots (λ j h. l.invariant.1 j (omega arith)))
