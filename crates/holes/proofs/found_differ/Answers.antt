@@ -16,8 +16,8 @@ use native.Mathlib.Numerals.{add-one}
 use Prim.Native.Nat.{◌-◌}
 use mathlib.Core.Bool.{not, true, false}
 use mathlib.Core.Path.{◌≡◌, refl, sym, ap, ◌∙◌}
-use mathlib.Core.Logic.{⊎_elim}
 use Rattle.holes.proofs.found_differ.Goals as goal
+use Rattle.holes.proofs.found_differ.Goals.{then-epoch-ne0, else-epoch-ne0}
 
 pub loop-c-init : goal.loop-c-init
 unfolding keep below row
@@ -32,21 +32,21 @@ loop-c-preserved c = let l = c.loop-c in
     let a = c.args in
     let d = spare_only a.spare.now in
     let f = c.found_epoch-epoch in
-    ⊎_elim
-    (λ w. let o : occupied a.z d l.c ≡ true = f.ensures.c_value_2 ∙ ap not (ne_eqb f.result 0 w.0.taken) in (
-      omega arith,
-      omega (arith, w.2),
-      ap length w.1 ∙ length-set l.epochs l.n f.result ∙ l.invariant.2,
-      rw (w.2, w.1, add-one l.n, take-suc-set l.epochs l.n f.result (omega arith), l.invariant.3, f.ensures.value, found-occupied a.z d l.c o)
-          (sym (keep_more l.c (occupied a.z d) (first_epoch a.z d) o)),
-    ))
-    (λ w. let o : occupied a.z d l.c ≡ false = f.ensures.c_value_2 ∙ ap not (eq-eqb f.result 0 w.0.left) in (
-      omega arith,
-      omega (arith, w.2),
-      ap length w.1 ∙ l.invariant.2,
-      rw (w.2, w.1, l.invariant.3) (sym (keep_same l.c (occupied a.z d) (first_epoch a.z d) o)),
-    ))
-    c.if-epoch-ne0.branch
+    elim c.if-epoch-ne0.branch [
+      | then-epoch-ne0 w ↦ let o : occupied a.z d l.c ≡ true = f.ensures.c_value_2 ∙ ap not (ne_eqb f.result 0 w.if-epoch-ne0.true) in (
+        omega arith,
+        omega (arith, w.n-is),
+        ap length w.epochs-is ∙ length-set l.epochs l.n f.result ∙ l.invariant.2,
+        rw (w.n-is, w.epochs-is, add-one l.n, take-suc-set l.epochs l.n f.result (omega arith), l.invariant.3, f.ensures.value, found-occupied a.z d l.c o)
+            (sym (keep_more l.c (occupied a.z d) (first_epoch a.z d) o)),
+      )
+      | else-epoch-ne0 w ↦ let o : occupied a.z d l.c ≡ false = f.ensures.c_value_2 ∙ ap not (eq-eqb f.result 0 w.if-epoch-ne0.false) in (
+        omega arith,
+        omega (arith, w.n-is),
+        ap length w.epochs-is ∙ l.invariant.2,
+        rw (w.n-is, w.epochs-is, l.invariant.3) (sym (keep_same l.c (occupied a.z d) (first_epoch a.z d) o)),
+      )
+    ]
 
 pub slice_bounds-all_differ-end : goal.slice_bounds-all_differ-end
 slice_bounds-all_differ-end c = sym (length-take-le c.loop-c.n c.loop-c.epochs (omega arith))

@@ -40,4 +40,5 @@ pub returns-else-kind : goal.returns-else-kind
 unfolding programmed spoiled tag_of page_index
 returns-else-kind c = let o = c in let a = o.args in let d = spare_only a.spare.now in let h = c.head_page-k in let tag = tag_of a.z d a.c h.result in
     let p : programmed tag ≡ false = rw (found-kind a.z d a.c o.requires.c_value h.result h.ensures.inside, ← c.kind_at-kind.ensures) c.if-kind.false in
-    epoch-none a.z d a.c h.result h.ensures p
+    let none = epoch-none a.z d a.c h.result h.ensures p in
+    record { value = none.0; c_value_2 = none.1 }
