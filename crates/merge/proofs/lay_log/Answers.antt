@@ -22,7 +22,7 @@ overflow_mul-bucket c = omega (arith, products c.requires.limits)
 
 pub overflow_mul-start : goal.overflow_mul-start
 unfolding bucket_size
-overflow_mul-start c.args.z c.args.c c.args.k c.args.f.pages = let bounds : start c.args.z c.args.c c.args.k c.args.f.pages + count c.args.f.last ≤ length c.args.flash.now = omega (arith, in_flash c.args.z c.args.flash.now c.args.c _ c.requires.flash_len c.requires.c_lt_c c.requires.log_place.stored) in
+overflow_mul-start c = let bounds : start c.args.z c.args.c c.args.k c.args.f.pages + count c.args.f.last ≤ length c.args.flash.now = omega (arith, in_flash c.args.z c.args.flash.now c.args.c _ c.requires.flash_len c.requires.c_lt_c c.requires.log_place.stored) in
     omega (arith, bounds)
 
 pub overflow_mul-start-2 : goal.overflow_mul-start-2
@@ -32,7 +32,7 @@ overflow_mul-start-2 c = let bounds : start c.args.z c.args.c c.args.k c.args.f.
 
 pub overflow_add-start : goal.overflow_add-start
 unfolding bucket_size
-overflow_add-start c.args.z c.args.c c.args.k c.args.f.pages = let bounds : start c.args.z c.args.c c.args.k c.args.f.pages + count c.args.f.last ≤ length c.args.flash.now = omega (arith, in_flash c.args.z c.args.flash.now c.args.c _ c.requires.flash_len c.requires.c_lt_c c.requires.log_place.stored) in
+overflow_add-start c = let bounds : start c.args.z c.args.c c.args.k c.args.f.pages + count c.args.f.last ≤ length c.args.flash.now = omega (arith, in_flash c.args.z c.args.flash.now c.args.c _ c.requires.flash_len c.requires.c_lt_c c.requires.log_place.stored) in
     omega (arith, bounds)
 
 pub overflow_add-end-2 : goal.overflow_add-end-2

@@ -1,0 +1,22 @@
+use mathlib.Core.Path.{refl}
+use Rattle.geometry.specs.Geometry.{device}
+use Rattle.model.specs.Calls.{format_call, sizes_of, done_answer, lent_buffer, read_buffer}
+use Rattle.model.specs.Operations.{format}
+use Rattle.outcome.proofs.Ends.{left_within, handed_quiet}
+use Rattle.state.specs.View.{view_of}
+use Rattle.format.proofs.format_chip.Goals as goal
+
+pub finish-requires : goal.finish-requires
+unfolding sizes_of format
+finish-requires c = let whole = c.whole-whole in
+    let a = c.args in
+    let d = device a.flash.now a.spare.now a.disk.now in
+    left_within a.allowance (format_call a.z) a.s (view_of a.s) d (format a.z) (rw whole.ensures at c.erase_all-after.ensures.result_after)
+
+pub returns : goal.returns
+unfolding sizes_of format done_answer lent_buffer read_buffer
+returns c = let whole = c.whole-whole in
+    let erase-all = c.erase_all-after in
+    let a = c.args in
+    let d = device a.flash.now a.spare.now a.disk.now in
+    rw (c.finish.ensures, c.formatted-new.ensures) (handed_quiet a.allowance (format_call a.z) a.s (view_of a.s) d (format a.z) refl refl (rw whole.ensures at erase-all.ensures.result_after))
