@@ -8,6 +8,7 @@ docs/BENCHMARK.md and the plot docs/benchmark.svg.
 import argparse
 import os
 import random
+import shutil
 import statistics
 import subprocess
 import sys
@@ -23,7 +24,9 @@ from inputs.driving import KINDS, Script  # noqa: E402
 
 TARGET = os.path.join(ROOT, "target")
 ORACLE = os.path.join(TARGET, "oracle")
+EXPORTS = os.path.join(ROOT, "crates", "bench_c")
 LIBRARY = os.path.join(TARGET, "staticlib", "libbench.a")
+PROGRAM = os.path.join(ROOT, "crates", "tugmerov", "out", "tugmerov")
 HARNESS = os.path.join(TARGET, "harness")
 DOCUMENT = os.path.join(ROOT, "docs", "BENCHMARK.md")
 PLOT = os.path.join(ROOT, "docs", "benchmark.svg")
@@ -38,10 +41,12 @@ PROFILES = {"calm": "calm", "mixed": "wide", "recovery-heavy": "recovery"}
 
 
 def build():
-    """The oracle, the static library of crate bench and the harness that calls both."""
+    """The oracle, the static library of crate bench_c and the harness that calls both."""
     subprocess.run(["sh", os.path.join(ROOT, "oracle", "build.sh"), ORACLE], check=True)
     if not os.path.exists(LIBRARY) or os.path.getmtime(LIBRARY) < newest_source():
-        subprocess.run(["rt", "staticlib", "bench"], cwd=ROOT, check=True, stdout=subprocess.DEVNULL)
+        subprocess.run(["rt", "lib"], cwd=EXPORTS, check=True, stdout=subprocess.DEVNULL)
+        os.makedirs(os.path.dirname(LIBRARY), exist_ok=True)
+        shutil.copyfile(os.path.join(EXPORTS, "out", "libbench_c.a"), LIBRARY)
     subprocess.run(["rustc", "-O", "--edition", "2021", os.path.join(ROOT, "bench", "harness.rs"),
                     "--extern", f"oracle={ORACLE}/liboracle.rlib", "-L", os.path.dirname(LIBRARY),
                     "-o", HARNESS], check=True)
@@ -50,7 +55,8 @@ def build():
 def newest_source():
     """When a crate last changed. Proving the library again takes a minute, so it is done only then."""
     return max(os.path.getmtime(os.path.join(folder, name))
-               for folder, _, names in os.walk(os.path.join(ROOT, "crates")) for name in names)
+               for folder, _, names in os.walk(os.path.join(ROOT, "crates"))
+               for name in names if "out" not in os.path.relpath(folder, ROOT).split(os.sep))
 
 
 def driving_input(seed, profile, sizes, lines):
@@ -119,8 +125,9 @@ def write_plot(engine, limit, driving):
 
 def main():
     parser = argparse.ArgumentParser(description=__doc__)
-    parser.add_argument("--program", default=os.path.join(TARGET, "bin", "tugmerov"), metavar="BIN",
-                        help="the proved driving program; its rows are left out where it is missing")
+    parser.add_argument("--program", default=PROGRAM, metavar="BIN",
+                        help="the proved driving program, which rt run and rt ci build; its rows are left out where "
+                             "it is missing")
     parser.add_argument("--repeats", type=int, default=9, help="runs of each row")
     parser.add_argument("--calls", type=int, default=4, help="calls of which instructions are counted")
     parser.add_argument("--lines", type=int, default=10000, help="lines of each input")

@@ -12,6 +12,7 @@ words that say so. Printed as a table of Markdown.
 import collections
 import os
 import re
+import shutil
 import subprocess
 import tempfile
 
@@ -34,7 +35,7 @@ ENTRIES = {
 RESULTS = {"read_text": "match o { model::Answer::Done => 0, _ => 1 }", "write_text": "o.length"}
 
 CALLER = """
-#[no_mangle]
+#[unsafe(no_mangle)]
 pub extern "C" fn {name}(
     z: &[usize; 6],
     allowance: usize,
@@ -61,20 +62,17 @@ Instruction = collections.namedtuple("Instruction", "place name operands symbol"
 # The library.
 
 def build(folder):
-    """The library of the callers, over the repository's crates as they are proved there."""
-    rt("check", "calls", "receive", "send", folder=ROOT)
-    os.makedirs(os.path.join(folder, "crates", "entries", "src"))
-    os.makedirs(os.path.join(folder, "target"))
-    crates = [os.path.join("crates", name) for name in os.listdir(os.path.join(ROOT, "crates"))]
-    for path in crates + [os.path.join("target", "rlib"), os.path.join("target", "stamp")]:
-        os.symlink(os.path.join(ROOT, path), os.path.join(folder, path))
+    """The library of the callers, over a copy of the repository's crates. Their checks begin with what was proved here."""
+    shutil.copytree(os.path.join(ROOT, "crates"), os.path.join(folder, "crates"), ignore=shutil.ignore_patterns("out"))
+    entries = os.path.join(folder, "crates", "entries")
+    os.makedirs(os.path.join(entries, "src"))
     with open(os.path.join(ROOT, "crates.txt"), encoding="utf-8") as file:
         listed = file.read()
-    write(os.path.join(folder, "crates.txt"), f"{listed}\nentries: format erasestep read write drain recover "
+    write(os.path.join(folder, "crates.txt"), f"{listed}\nentries staticlib: format erasestep read write drain recover "
                                               "receive send outcome state queue fifo model lists\n")
-    write(os.path.join(folder, "crates", "entries", "src", "lib.rt"), callers())
-    rt("staticlib", "entries", folder=folder)
-    return os.path.join(folder, "target", "staticlib", "libentries.a")
+    write(os.path.join(entries, "src", "lib.rt"), callers())
+    rt("lib", folder=entries)
+    return os.path.join(entries, "out", "libentries.a")
 
 
 def rt(*words, folder):
@@ -92,7 +90,7 @@ def write(path, text):
 
 def callers():
     """Two callers of each entry."""
-    return "".join(CALLER.format(name=f"{which}_{entry}", call=call, result=RESULTS.get(entry, "o.stores"))
+    return "#![tactic(auto)]\n" + "".join(CALLER.format(name=f"{which}_{entry}", call=call, result=RESULTS.get(entry, "o.stores"))
                    for entry, call in ENTRIES.items() for which in ("one", "other"))
 
 

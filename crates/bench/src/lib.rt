@@ -239,9 +239,8 @@ fn drained(
     drains(start(begun), n, spread, data, flash, spare, disk)
 }
 
-// The exported functions: a format, some operations before, then n of them.
-#[unsafe(no_mangle)]
-pub extern "C" fn bench_writes(
+// A format, some operations before, then n of them. bench_c exports these functions to C.
+pub fn bench_writes(
     n: usize,
     s: usize,
     b: usize,
@@ -257,8 +256,7 @@ pub extern "C" fn bench_writes(
     run.stores
 }
 
-#[unsafe(no_mangle)]
-pub extern "C" fn bench_reads(
+pub fn bench_reads(
     n: usize,
     s: usize,
     b: usize,
@@ -274,8 +272,7 @@ pub extern "C" fn bench_reads(
     run.stores
 }
 
-#[unsafe(no_mangle)]
-pub extern "C" fn bench_drains(
+pub fn bench_drains(
     n: usize,
     s: usize,
     b: usize,
@@ -292,8 +289,7 @@ pub extern "C" fn bench_drains(
 }
 
 // Recoveries of the image that the writes before leave.
-#[unsafe(no_mangle)]
-pub extern "C" fn bench_recoveries(
+pub fn bench_recoveries(
     n: usize,
     s: usize,
     b: usize,
@@ -443,8 +439,7 @@ fn merge_chip(
 }
 
 // The window laid out n times over some logs of the data's length, by the old merge.
-#[unsafe(no_mangle)]
-pub extern "C" fn bench_old_merges(
+pub fn bench_old_merges(
     n: usize,
     s: usize,
     count: usize,
@@ -463,8 +458,7 @@ pub extern "C" fn bench_old_merges(
 }
 
 // By the new one.
-#[unsafe(no_mangle)]
-pub extern "C" fn bench_new_merges(
+pub fn bench_new_merges(
     n: usize,
     s: usize,
     count: usize,

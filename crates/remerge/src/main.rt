@@ -18,6 +18,8 @@ mod within;
 ghost use Rattle.model.proofs.Limits.{Limits};
 
 use model::Sizes;
+use std::io;
+use std::io::Stdout;
 use tally::Tally;
 
 // Calls on each chip.
@@ -53,24 +55,25 @@ fn compare_sizes(z: Sizes) -> Tally
     compare_chips(z, &mut flash[..chip], &mut spare[..tags], &mut disk[..end])
 }
 
-fn compare_row(row: [u16; 6]) -> Tally {
+fn compare_row(out: Stdout, row: [u16; 6]) -> io::Result<Tally> {
     let z = sizes::sizes_of(row);
     if !geometry::limits(z) {
-        return Tally::empty();
+        return Ok(Tally::empty());
     }
-    tally::print_sizes(z);
+    tally::print_sizes(out, z)?;
     let tally = compare_sizes(z);
-    tally::print(tally);
-    tally
+    tally::print(out, tally)?;
+    Ok(tally)
 }
 
-fn main() {
+fn main(rt: HostRuntime) -> io::Result<()> {
+    let out = rt.stdout();
     let mut all = Tally::empty();
     let mut i = 0;
     while i < sizes::COUNT {
-        all = all.and(compare_row(sizes::SIZES[i]));
+        all = all.and(compare_row(out, sizes::SIZES[i])?);
         i += 1;
     }
-    io::write_all(1, b"all");
-    tally::print(all);
+    out.write_all(b"all")?;
+    tally::print(out, all)
 }

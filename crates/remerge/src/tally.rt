@@ -2,6 +2,8 @@
 ghost use Rattle.std.specs.Prelude.{◌≡◌, length};
 
 use model::Sizes;
+use std::io;
+use std::io::Stdout;
 
 #[derive(Clone, Copy)]
 pub struct Tally {
@@ -107,27 +109,27 @@ pub fn spoiled(pages: usize) -> Tally {
     tally
 }
 
-fn print_number(words: &[u8], n: usize) {
-    io::write_all(1, words);
-    io::print_decimal(1, n as u64);
+fn print_number(out: Stdout, words: &[u8], n: usize) -> io::Result<()> {
+    out.write_all(words)?;
+    out.print(n)
 }
 
-pub fn print_sizes(z: Sizes) {
-    print_number(b"S ", z.s);
-    print_number(b" P ", z.p);
-    print_number(b" C ", z.c);
-    print_number(b" B ", z.b);
+pub fn print_sizes(out: Stdout, z: Sizes) -> io::Result<()> {
+    print_number(out, b"S ", z.s)?;
+    print_number(out, b" P ", z.p)?;
+    print_number(out, b" C ", z.c)?;
+    print_number(out, b" B ", z.b)
 }
 
-pub fn print(tally: Tally) {
-    print_number(b": merges ", tally.merges);
-    print_number(b", of no Write bucket ", tally.none);
-    print_number(b", one ", tally.one);
-    print_number(b", several ", tally.several);
-    print_number(b"; abandoned logs ", tally.abandoned);
-    print_number(b"; torn erases ", tally.torn);
-    print_number(b"; spoiled pages ", tally.spoiled);
-    print_number(b"; bytes ", tally.bytes);
-    print_number(b", differing ", tally.differing);
-    io::write_all(1, b"\n");
+pub fn print(out: Stdout, tally: Tally) -> io::Result<()> {
+    print_number(out, b": merges ", tally.merges)?;
+    print_number(out, b", of no Write bucket ", tally.none)?;
+    print_number(out, b", one ", tally.one)?;
+    print_number(out, b", several ", tally.several)?;
+    print_number(out, b"; abandoned logs ", tally.abandoned)?;
+    print_number(out, b"; torn erases ", tally.torn)?;
+    print_number(out, b"; spoiled pages ", tally.spoiled)?;
+    print_number(out, b"; bytes ", tally.bytes)?;
+    print_number(out, b", differing ", tally.differing)?;
+    out.write_all(b"\n")
 }

@@ -7,6 +7,8 @@ use crate::pages::{PAGES, Page};
 use crate::run::Run;
 use crate::{back, pages, run, spoil, tear};
 use model::Sizes;
+use std::io;
+use std::io::Stdout;
 
 // A cut call, and what the restart behind it came to.
 #[derive(Clone, Copy)]
@@ -45,7 +47,7 @@ fn ones(n: usize) -> u8 {
 
 // The call, its allowance, its answer and stores; the stores of the recovery; the erases that stopped halfway, each set of pages counted; the
 // pages that were spoiled, each way counted; whether each confirmed write is there in every case.
-fn print(operation: u8, allowance: usize, run: Run, back: Back) {
+fn print(out: Stdout, operation: u8, allowance: usize, run: Run, back: Back) -> io::Result<()> {
     let line = [
         operation,
         tens(allowance),
@@ -65,11 +67,11 @@ fn print(operation: u8, allowance: usize, run: Run, back: Back) {
         ones(back.spoiled),
         b' ',
     ];
-    io::write_all(1, &line);
+    out.write_all(&line)?;
     if back.kept {
-        io::write_all(1, b"ok\n");
+        out.write_all(b"ok\n")
     } else {
-        io::write_all(1, b"LOST\n");
+        out.write_all(b"LOST\n")
     }
 }
 
@@ -172,43 +174,59 @@ fn all_ways(
 }
 
 // Whether the call was cut.
-fn told(operation: u8, allowance: usize, way: Way) -> bool {
+fn told(out: Stdout, operation: u8, allowance: usize, way: Way) -> io::Result<bool> {
     let run = way.run;
     let back = way.back;
-    print(operation, allowance, run, back);
-    run.answer == b'C'
+    print(out, operation, allowance, run, back)?;
+    Ok(run.answer == b'C')
 }
 
 fn cut_at(
+    out: Stdout,
     z: Sizes,
     call: [u8; 6],
     allowance: usize,
     flash: &mut [u8],
     spare: &mut [u8],
     disk: &mut [u8],
-) -> bool
+) -> io::Result<bool>
     requires { allowance ≤ 32 }
 {
     let next = next_store(z, call, allowance, flash, spare, disk);
     let way = all_ways(z, call, allowance, next, flash, spare, disk);
-    told(call[0], allowance, way)
+    told(out, call[0], allowance, way)
 }
 
-fn cut_everywhere(z: Sizes, call: [u8; 6], flash: &mut [u8], spare: &mut [u8], disk: &mut [u8]) {
+fn cut_everywhere(
+    out: Stdout,
+    z: Sizes,
+    call: [u8; 6],
+    flash: &mut [u8],
+    spare: &mut [u8],
+    disk: &mut [u8],
+) -> io::Result<()> {
     let mut allowance = 0;
     while allowance < 32 {
-        if !cut_at(z, call, allowance, flash, spare, disk) {
-            return;
+        if !cut_at(out, z, call, allowance, flash, spare, disk)? {
+            return Ok(());
         }
         allowance += 1;
     }
+    Ok(())
 }
 
-pub fn cut_all(z: Sizes, flash: &mut [u8], spare: &mut [u8], disk: &mut [u8]) {
+pub fn cut_all(
+    out: Stdout,
+    z: Sizes,
+    flash: &mut [u8],
+    spare: &mut [u8],
+    disk: &mut [u8],
+) -> io::Result<()> {
     let mut i = 0;
     while i < 7 {
         let call = CUT[i];
-        cut_everywhere(z, call, flash, spare, disk);
+        cut_everywhere(out, z, call, flash, spare, disk)?;
         i += 1;
     }
+    Ok(())
 }

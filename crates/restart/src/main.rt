@@ -13,20 +13,28 @@ mod spoil;
 mod tear;
 
 use model::Sizes;
+use std::io;
+use std::io::Stdout;
 
 // A queue whose length says more than its array has places for, which no form of a state can: number 5.
-fn drain_beyond_places(z: Sizes, flash: &mut [u8], spare: &mut [u8], disk: &mut [u8]) {
+fn drain_beyond_places(
+    out: Stdout,
+    z: Sizes,
+    flash: &mut [u8],
+    spare: &mut [u8],
+    disk: &mut [u8],
+) -> io::Result<()> {
     let run = run::mixed(z, flash, spare, disk);
     let mut state = run.state;
     state.reads.len = 1000;
     let o = drain::drain(state, 99, flash, spare, disk);
     let reply = o.answer;
     let line = [run::letter(reply), b'0' + run::number(reply) % 10, b'\n'];
-    io::write_all(1, &line);
+    out.write_all(&line)
 }
 
 // The smallest chip.
-fn one_page() {
+fn one_page(out: Stdout) -> io::Result<()> {
     let z = Sizes {
         s: 4,
         p: 1,
@@ -38,11 +46,11 @@ fn one_page() {
     let mut flash = [0u8; 20];
     let mut spare = [0u8; 80];
     let mut disk = [0u8; 4];
-    drain_beyond_places(z, &mut flash, &mut spare, &mut disk);
-    cuts::cut_all(z, &mut flash, &mut spare, &mut disk);
+    drain_beyond_places(out, z, &mut flash, &mut spare, &mut disk)?;
+    cuts::cut_all(out, z, &mut flash, &mut spare, &mut disk)
 }
 
-fn two_pages() {
+fn two_pages(out: Stdout) -> io::Result<()> {
     let z = Sizes {
         s: 4,
         p: 2,
@@ -54,10 +62,10 @@ fn two_pages() {
     let mut flash = [0u8; 64];
     let mut spare = [0u8; 256];
     let mut disk = [0u8; 24];
-    cuts::cut_all(z, &mut flash, &mut spare, &mut disk);
+    cuts::cut_all(out, z, &mut flash, &mut spare, &mut disk)
 }
 
-fn odd_pages() {
+fn odd_pages(out: Stdout) -> io::Result<()> {
     let z = Sizes {
         s: 5,
         p: 3,
@@ -69,10 +77,10 @@ fn odd_pages() {
     let mut flash = [0u8; 135];
     let mut spare = [0u8; 432];
     let mut disk = [0u8; 45];
-    cuts::cut_all(z, &mut flash, &mut spare, &mut disk);
+    cuts::cut_all(out, z, &mut flash, &mut spare, &mut disk)
 }
 
-fn four_pages() {
+fn four_pages(out: Stdout) -> io::Result<()> {
     let z = Sizes {
         s: 16,
         p: 4,
@@ -84,12 +92,13 @@ fn four_pages() {
     let mut flash = [0u8; 768];
     let mut spare = [0u8; 768];
     let mut disk = [0u8; 256];
-    cuts::cut_all(z, &mut flash, &mut spare, &mut disk);
+    cuts::cut_all(out, z, &mut flash, &mut spare, &mut disk)
 }
 
-fn main() {
-    one_page();
-    two_pages();
-    odd_pages();
-    four_pages();
+fn main(rt: HostRuntime) -> io::Result<()> {
+    let out = rt.stdout();
+    one_page(out)?;
+    two_pages(out)?;
+    odd_pages(out)?;
+    four_pages(out)
 }

@@ -10,7 +10,7 @@ ghost use Rattle.model.specs.Mail.{text_fault, text_of, image_of};
 ghost use Rattle.rewrite.specs.Rewrite.{sizes_line, first_tests, no_chip, rewritten_text, rewritten};
 
 use model::Sizes;
-use streams::Got;
+use streams::{Got, Streams};
 
 // The digits of the first line, and the line with its line feed.
 const DIGITS: usize = 18;
@@ -150,12 +150,12 @@ fn rewrite(text: &mut [u8], end: usize, flash: &mut [u8], spare: &mut [u8]) -> u
 }
 
 // Until the input ends or the buffer is full: what stands beyond cannot change the output. Not ended is an input whose read failed.
-fn read_input(text: &mut [u8]) -> Got
+fn read_input(streams: &mut Streams, text: &mut [u8]) -> Got
     ensures { result.count ≤ length text.new }
 {
     let mut count = 0;
     while count < text.len() {
-        let got = streams::read_piece(&mut text[count..]);
+        let got = streams::read_piece(streams, &mut text[count..]);
         if got.count == 0 {
             return Got {
                 count,
@@ -168,32 +168,33 @@ fn read_input(text: &mut [u8]) -> Got
 }
 
 // A refusal goes to standard error too: behind a pipe nobody sees the output.
-fn put_output(text: &[u8]) {
-    if streams::write_out(text) < text.len() {
-        os::fail(b"rewrite: standard output");
+fn put_output(streams: &mut Streams, text: &[u8]) {
+    if streams::write_out(streams, text) < text.len() {
+        streams::fail(streams, b"rewrite: standard output");
     }
     if text.len() == REFUSAL {
-        io::write_all(2, b"rewrite: refused: ");
-        io::write_all(2, text);
+        streams::say(streams, b"rewrite: refused: ");
+        streams::say(streams, text);
     }
 }
 
 // Where the read failed nothing is written.
-fn run(text: &mut [u8], flash: &mut [u8], spare: &mut [u8])
+fn run(streams: &mut Streams, text: &mut [u8], flash: &mut [u8], spare: &mut [u8])
     requires { (length text.old ≡ 2738234) × (length flash.old ≡ 1048576) × (length spare.old ≡ 262144) }
 {
-    let got = read_input(text);
+    let got = read_input(streams, text);
     if got.ended {
         let length = rewrite(text, got.count, flash, spare);
-        put_output(&text[..length]);
+        put_output(streams, &text[..length]);
     } else {
-        os::fail(b"rewrite: standard input");
+        streams::fail(streams, b"rewrite: standard input");
     }
 }
 
-fn main() {
+fn main(rt: HostRuntime) {
+    let mut streams = streams::open(&rt);
     let mut text = [0u8; ROOM];
     let mut flash = [0u8; DATA];
     let mut spare = [0u8; SPARE];
-    run(&mut text, &mut flash, &mut spare);
+    run(&mut streams, &mut text, &mut flash, &mut spare);
 }

@@ -11,7 +11,7 @@ ghost use Rattle.input.specs.Ways.{Begun, Walked, Closed};
 ghost use Rattle.tugmerov.specs.Whole.{Reached, Ended, Whole};
 
 use input::Walk;
-use streams::Got;
+use streams::{Got, Streams};
 
 // The bytes that are held of a line: any longer one is F0, whatever follows.
 const LINE_ROOM: usize = 513;
@@ -33,6 +33,7 @@ struct Came {
 // The lines of a piece are answered before the next is read: someone may wait for the answers. Where the output fails the walk ends, with characters
 // that are printed and not written.
 fn walk_piece(
+    streams: &mut Streams,
     w: Walk,
     piece: &[u8],
     line: &mut [u8],
@@ -54,7 +55,7 @@ fn walk_piece(
     while walk.passed < piece.len() && walk.printed == 0 {
         walk = input::advance(walk, piece, line, buffer, flash, spare, disk, out);
         let printed = walk.printed;
-        let put = streams::write_out(&out[..printed]);
+        let put = streams::write_out(streams, &out[..printed]);
         walk.printed = printed - put;
         written += put;
     }
@@ -74,6 +75,7 @@ fn closed(got: Got, held: usize, piece: &mut [u8]) -> usize
 
 // What was read is walked, and at the end of the input the line that lacks its line feed.
 fn turn(
+    streams: &mut Streams,
     w: Walk,
     got: Got,
     piece: &mut [u8],
@@ -92,11 +94,22 @@ fn turn(
     ensures closed { got.ended ≡ true → result.walk.printed ≡ 0 → Closed (ahead w line.old flash.old spare.old disk.old out.old) result.written (ahead result.walk line.new flash.new spare.new disk.new out.new) }
 {
     let n = closed(got, w.held, piece);
-    walk_piece(w, &piece[..n], line, buffer, flash, spare, disk, out)
+    walk_piece(
+        streams,
+        w,
+        &piece[..n],
+        line,
+        buffer,
+        flash,
+        spare,
+        disk,
+        out,
+    )
 }
 
 // Nothing says that the input ends, so this loop counts its turns down too.
 fn walk_pieces(
+    streams: &mut Streams,
     w: Walk,
     piece: &mut [u8],
     line: &mut [u8],
@@ -116,8 +129,10 @@ fn walk_pieces(
     let mut more = true;
     let mut turns = u64::MAX;
     while more && turns > 0 {
-        let got = streams::read_piece(piece);
-        let told = turn(walk, got, piece, line, buffer, flash, spare, disk, out);
+        let got = streams::read_piece(streams, piece);
+        let told = turn(
+            streams, walk, got, piece, line, buffer, flash, spare, disk, out,
+        );
         let next = told.walk;
         walk = next;
         ended = got.ended;
@@ -128,6 +143,7 @@ fn walk_pieces(
 }
 
 fn walk_input(
+    streams: &mut Streams,
     piece: &mut [u8],
     line: &mut [u8],
     buffer: &mut [u8],
@@ -142,19 +158,20 @@ fn walk_input(
     ensures whole { result.ended ≡ true → result.walk.printed ≡ 0 → Whole (ahead result.walk line.new flash.new spare.new disk.new out.new) }
 {
     let start = input::start();
-    walk_pieces(start, piece, line, buffer, flash, spare, disk, out)
+    walk_pieces(streams, start, piece, line, buffer, flash, spare, disk, out)
 }
 
 // Where the program stopped early standard error says why: the call that failed was the last.
-fn report(came: Came) {
+fn report(streams: &Streams, came: Came) {
     if came.walk.printed > 0 {
-        os::fail(b"tugmerov: standard output");
+        streams::fail(streams, b"tugmerov: standard output");
     } else if !came.ended {
-        os::fail(b"tugmerov: standard input");
+        streams::fail(streams, b"tugmerov: standard input");
     }
 }
 
-fn main() {
+fn main(rt: HostRuntime) {
+    let mut streams = streams::open(&rt);
     let mut piece = [0u8; 65536];
     let mut line = [0u8; LINE_ROOM];
     let mut buffer = [0u8; 65536];
@@ -163,6 +180,7 @@ fn main() {
     let mut disk = [0u8; drive::DISK];
     let mut out = [0u8; 131072];
     let came = walk_input(
+        &mut streams,
         &mut piece,
         &mut line,
         &mut buffer,
@@ -171,5 +189,5 @@ fn main() {
         &mut disk,
         &mut out,
     );
-    report(came);
+    report(&streams, came);
 }

@@ -17,6 +17,7 @@ ghost use Rattle.workbench.specs.Bench.{text_room};
 ghost use Rattle.workbench.specs.Walk.{line_room, Sound};
 
 use crate::bench::Bench;
+use streams::Streams;
 
 // The bytes that are held of a line: any longer one is F0, whatever follows.
 const LINE_ROOM: usize = 8193;
@@ -41,6 +42,7 @@ struct Came {
 
 // A whole line is answered before more is read: someone may wait for the answer.
 fn answer(
+    streams: &mut Streams,
     b: Bench,
     line: &[u8],
     flash: &mut [u8],
@@ -54,7 +56,7 @@ fn answer(
 {
     let answered = bench::on_line(b, line, flash, spare, disk, out);
     let length = answered.length;
-    let written = streams::write_out(&out[..length]);
+    let written = streams::write_out(streams, &out[..length]);
     let bench = answered.bench;
     Walk {
         bench,
@@ -65,6 +67,7 @@ fn answer(
 
 // More bytes of a line, perhaps the last.
 fn take_bytes(
+    streams: &mut Streams,
     w: Walk,
     bytes: &[u8],
     last: bool,
@@ -79,7 +82,7 @@ fn take_bytes(
 {
     let held = lines::gather(line, w.held, bytes);
     if last {
-        return answer(w.bench, &line[..held], flash, spare, disk, out);
+        return answer(streams, w.bench, &line[..held], flash, spare, disk, out);
     }
     let bench = w.bench;
     Walk {
@@ -91,6 +94,7 @@ fn take_bytes(
 
 // Line by line, to the end of the piece or to a text that could not be written.
 fn walk_piece(
+    streams: &mut Streams,
     w: Walk,
     piece: &[u8],
     line: &mut [u8],
@@ -107,7 +111,17 @@ fn walk_piece(
     while from < piece.len() && !walk.failed {
         let end = lines::line_end(piece, from);
         let last = end < piece.len();
-        walk = take_bytes(walk, &piece[from..end], last, line, flash, spare, disk, out);
+        walk = take_bytes(
+            streams,
+            walk,
+            &piece[from..end],
+            last,
+            line,
+            flash,
+            spare,
+            disk,
+            out,
+        );
         from = end + 1;
     }
     walk
@@ -115,6 +129,7 @@ fn walk_piece(
 
 // Nothing says that the input ends, so the loop counts its turns down.
 fn walk_pieces(
+    streams: &mut Streams,
     w: Walk,
     piece: &mut [u8],
     line: &mut [u8],
@@ -131,9 +146,18 @@ fn walk_pieces(
     let mut more = true;
     let mut turns = u64::MAX;
     while more && turns > 0 {
-        let got = streams::read_piece(piece);
+        let got = streams::read_piece(streams, piece);
         let count = got.count;
-        walk = walk_piece(walk, &piece[..count], line, flash, spare, disk, out);
+        walk = walk_piece(
+            streams,
+            walk,
+            &piece[..count],
+            line,
+            flash,
+            spare,
+            disk,
+            out,
+        );
         ended = got.ended;
         more = (count > 0) & !walk.failed;
         turns -= 1;
@@ -143,6 +167,7 @@ fn walk_pieces(
 
 // The whole input; the last line may lack its line feed.
 fn walk_input(
+    streams: &mut Streams,
     piece: &mut [u8],
     line: &mut [u8],
     flash: &mut [u8],
@@ -158,13 +183,13 @@ fn walk_input(
         held: 0,
         failed: false,
     };
-    let came = walk_pieces(start, piece, line, flash, spare, disk, out);
+    let came = walk_pieces(streams, start, piece, line, flash, spare, disk, out);
     let walk = came.walk;
     let held = walk.held;
     if !came.ended | (held == 0) {
         return came;
     }
-    let last = answer(walk.bench, &line[..held], flash, spare, disk, out);
+    let last = answer(streams, walk.bench, &line[..held], flash, spare, disk, out);
     Came {
         walk: last,
         ended: true,
@@ -172,15 +197,16 @@ fn walk_input(
 }
 
 // Where the program stopped early standard error says why: the call that failed was the last.
-fn report(came: Came) {
+fn report(streams: &Streams, came: Came) {
     if came.walk.failed {
-        os::fail(b"workbench: standard output");
+        streams::fail(streams, b"workbench: standard output");
     } else if !came.ended {
-        os::fail(b"workbench: standard input");
+        streams::fail(streams, b"workbench: standard input");
     }
 }
 
-fn main() {
+fn main(rt: HostRuntime) {
+    let mut streams = streams::open(&rt);
     let mut piece = [0u8; 65536];
     let mut line = [0u8; LINE_ROOM];
     let mut flash = [0u8; drive::FLASH];
@@ -188,7 +214,13 @@ fn main() {
     let mut disk = [0u8; drive::DISK];
     let mut out = [0u8; TEXT_ROOM];
     let came = walk_input(
-        &mut piece, &mut line, &mut flash, &mut spare, &mut disk, &mut out,
+        &mut streams,
+        &mut piece,
+        &mut line,
+        &mut flash,
+        &mut spare,
+        &mut disk,
+        &mut out,
     );
-    report(came);
+    report(&streams, came);
 }
