@@ -90,8 +90,9 @@ def write(path, text):
 
 def callers():
     """Two callers of each entry."""
-    return "#![tactic(auto)]\n" + "".join(CALLER.format(name=f"{which}_{entry}", call=call, result=RESULTS.get(entry, "o.stores"))
-                   for entry, call in ENTRIES.items() for which in ("one", "other"))
+    each = [CALLER.format(name=f"{which}_{entry}", call=call, result=RESULTS.get(entry, "o.stores"))
+            for entry, call in ENTRIES.items() for which in ("one", "other")]
+    return "#![tactic(auto)]\n" + "".join(each)
 
 
 # Its machine code.
