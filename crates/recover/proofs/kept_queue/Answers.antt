@@ -1,0 +1,71 @@
+use Rattle.recover.proofs.Queues.{differing_more, differing_room}
+use Rattle.recover.specs.Kept.{entry_of, differing}
+use Rattle.image.specs.Chip.{spare_only}
+use Rattle.model.proofs.Limits.{on_chip}
+use Rattle.model.specs.State.{is_below}
+use Rattle.model.specs.Sizes.{body}
+use Rattle.lists.proofs.Arrays.{length_mapped, all_at}
+use Rattle.lists.proofs.Rows.{map_append}
+use borrow.Author.Tests.{eq-eqb, ne_eqb, ltb-true}
+use lib.Seq.{take-suc-set, take_all}
+use lib.ListN.{length, take, get_or, length-set, length-append}
+use mathlib.Core.List.{[], ◌∷◌, append-nil}
+use mathlib.Core.Bool.{true, false}
+use mathlib.Core.Path.{refl, ap, sym, ◌∙◌}
+use Prim.Native.Nat.{◌<◌}
+use native.Mathlib.Numerals.{add-one}
+use native.Mathlib.Omega.{arith}
+use borrow.Author.Rules.{rules}
+use Rattle.recover.proofs.kept_queue.Goals.{then-column-i, else-column-i}
+use Rattle.recover.proofs.kept_queue.Goals as goal
+
+pub loop-i-init : goal.loop-i-init
+unfolding differing
+loop-i-init c = let s = c in (omega arith, s.requires.column_len.0, s.requires.column_len.1, search (rules, length_mapped), s.requires.order_len_bound, refl, refl)
+
+pub entry_of-requires : goal.entry_of-requires
+unfolding is_below
+entry_of-requires c = let s = c in let l = c.loop-i in
+    record { chip = s.requires.chip; c_lt_c = on_chip s.args.z (get_or s.args.order.now l.i 0) (ltb-true _ (body s.args.z) (all_at (is_below (body s.args.z)) s.args.order.now s.requires.order_value l.i 0 c.loop-i-test.true)) }
+
+pub offset_bounds-items-n : goal.offset_bounds-items-n
+offset_bounds-items-n c = let l = c.loop-i in let x = c.args in
+    omega (arith, l.invariant.4, l.invariant.5, differing_room x.column.now x.dropped.now x.order.now l.i l.invariant.1 l.invariant.2 c.loop-i-test.true (ne_eqb _ _ c.if-column-i.true))
+
+pub bounds-items-n : goal.bounds-items-n
+bounds-items-n c = let l = c.loop-i in let x = c.args in
+    omega (arith, l.invariant.4, l.invariant.5, differing_room x.column.now x.dropped.now x.order.now l.i l.invariant.1 l.invariant.2 c.loop-i-test.true (ne_eqb _ _ c.if-column-i.true))
+
+pub overflow_add-n : goal.overflow_add-n
+overflow_add-n c = let l = c.loop-i in let x = c.args in
+    omega (arith, l.invariant.4, l.invariant.5, differing_room x.column.now x.dropped.now x.order.now l.i l.invariant.1 l.invariant.2 c.loop-i-test.true (ne_eqb _ _ c.if-column-i.true))
+
+pub loop-i-preserved : goal.loop-i-preserved
+loop-i-preserved c = let l = c.loop-i in let x = c.args in
+    let m = x.column.now in
+    let n = x.dropped.now in
+    let o = x.order.now in
+    let f = entry_of x.z (spare_only x.spare.now) x.counted in
+    let inside : l.i < length o = c.loop-i-test.true in
+    let done = differing (take l.i m) (take l.i n) (take l.i o) in
+    elim c.if-column-i.branch [
+      | then-column-i w ↦ let differ = ne_eqb (get_or m l.i 0) (get_or n l.i 0) w.if-column-i.true in
+          let more = differing_more m n o l.i l.invariant.1 l.invariant.2 inside false differ in
+          let room = differing_room m n o l.i l.invariant.1 l.invariant.2 inside differ in
+          let fits : l.n < length l.items = omega (arith, l.invariant.3, l.invariant.4, l.invariant.5) in (
+            omega arith,
+            l.invariant.1,
+            l.invariant.2,
+            ap length w.items-is ∙ length-set l.items l.n _ ∙ l.invariant.3,
+            l.invariant.4,
+            rw more (omega (arith, w.n-is, l.invariant.5, length-append done (get_or o l.i 0 ∷ []))),
+            rw (w.n-is, w.items-is, add-one l.n, take-suc-set l.items l.n w.entry_of.result fits, more, l.invariant.6, w.entry_of.ensures) (sym (map_append f done (get_or o l.i 0 ∷ []))),
+          )
+      | else-column-i w ↦ let alike = eq-eqb (get_or m l.i 0) (get_or n l.i 0) w.if-column-i.false in
+          let same = differing_more m n o l.i l.invariant.1 l.invariant.2 inside true alike ∙ append-nil done in
+          (omega arith, l.invariant.1, l.invariant.2, ap length w.items-is ∙ l.invariant.3, l.invariant.4, rw same (omega (arith, w.n-is, l.invariant.5)), rw (same, w.items-is, w.n-is) l.invariant.6)
+    ]
+
+pub returns : goal.returns
+returns c = let l = c.loop-i in let x = c.args in
+    l.invariant.6 ∙ rw (take_all l.i x.column.now (omega (arith, l.invariant.1)), take_all l.i x.dropped.now (omega (arith, l.invariant.2)), take_all l.i x.order.now (omega arith))
