@@ -9,6 +9,5 @@ use Rattle.frame.proofs.write_data.Goals as goal
 
 pub returns : goal.returns
 unfolding part
-returns c = let given = c in
-    let behind = drop given.args.at (bytes_of given.args.line.now) in
-    c.decode.ensures ∙ take_all (length given.args.out.now) behind (omega (arith, given.requires.out_len))
+returns c = let behind = drop c.args.at (bytes_of c.args.line.now) in
+    c.decode.ensures ∙ take_all (length c.args.out.now) behind (omega (arith, c.requires.out_len))

@@ -29,7 +29,7 @@ returns c = let are-digits : all is_digit c.args.line.now ≡ true = sym c.all_d
     let a = c.args in
     let length-is : length a.line.now ≡ (19 + a.z.s) * 2 = c.if-line-z.false in
     rw (
-      well_written a.z a.line.now length-is (are-digits),
+      well_written a.z a.line.now length-is are-digits,
       c.is_blank-blank.ensures,
       c.decode.ensures,
       c.byte_at-page.ensures,

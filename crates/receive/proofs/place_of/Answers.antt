@@ -1,5 +1,5 @@
 -- `receive::place_of` meets its contract.
-use Prim.Native.Nat.{◌+◌, ◌*◌, ◌<◌}
+use Prim.Native.Nat.{◌+◌, ◌*◌}
 use mathlib.Core.Path.{◌≡◌}
 use native.Mathlib.Omega.{arith}
 use Rattle.model.specs.Sizes.{page_index}
@@ -10,20 +10,21 @@ use Rattle.receive.proofs.place_of.Goals as goal
 
 pub overflow_mul-result : goal.overflow_mul-result
 unfolding place_of page_index frame_bucket frame_page
-overflow_mul-result c = let place_is : let a = c.args in c.number_at-bucket.result * a.z.p + c.byte_at-page.result ≡ place_of a.z a.line.now = rw (c.number_at-bucket.ensures, c.byte_at-page.ensures) in
-    let inside : let z = c.args.z in place_of z c.args.line.now < z.c * z.p = place_below c.args.z c.args.line.now c.requires.1 in
-    let start = c in
-    omega (arith, place_is, inside, (products start.requires.0).pages)
+overflow_mul-result c =
+    let a = c.args in
+    let place : c.number_at-bucket.result * a.z.p + c.byte_at-page.result ≡ place_of a.z a.line.now = rw (c.number_at-bucket.ensures, c.byte_at-page.ensures) in
+    omega (arith, place, place_below a.z a.line.now c.requires.1, (products c.requires.0).pages)
 
 pub overflow_add-result : goal.overflow_add-result
 unfolding place_of page_index frame_bucket frame_page
-overflow_add-result c = let place_is : let a = c.args in c.number_at-bucket.result * a.z.p + c.byte_at-page.result ≡ place_of a.z a.line.now = rw (c.number_at-bucket.ensures, c.byte_at-page.ensures) in
-    let inside : let z = c.args.z in place_of z c.args.line.now < z.c * z.p = place_below c.args.z c.args.line.now c.requires.1 in
-    let start = c in
-    omega (arith, place_is, inside, (products start.requires.0).pages)
+overflow_add-result c =
+    let a = c.args in
+    let place : c.number_at-bucket.result * a.z.p + c.byte_at-page.result ≡ place_of a.z a.line.now = rw (c.number_at-bucket.ensures, c.byte_at-page.ensures) in
+    omega (arith, place, place_below a.z a.line.now c.requires.1, (products c.requires.0).pages)
 
 pub returns : goal.returns
 unfolding place_of page_index frame_bucket frame_page
-returns c = let place_is : let a = c.args in c.number_at-bucket.result * a.z.p + c.byte_at-page.result ≡ place_of a.z a.line.now = rw (c.number_at-bucket.ensures, c.byte_at-page.ensures) in
-    let inside : let z = c.args.z in place_of z c.args.line.now < z.c * z.p = place_below c.args.z c.args.line.now c.requires.1 in
-    (place_is, rw (place_is) (inside))
+returns c =
+    let a = c.args in
+    let place : c.number_at-bucket.result * a.z.p + c.byte_at-page.result ≡ place_of a.z a.line.now = rw (c.number_at-bucket.ensures, c.byte_at-page.ensures) in
+    (place, rw place (place_below a.z a.line.now c.requires.1))

@@ -16,23 +16,20 @@ returns-then-number-ne0 c = let a = c.args in
 
 pub lay_lines-requires : goal.lay_lines-requires
 unfolding text_fault
-lay_lines-requires c = let taken : let a = c.args in
-    first_failed (read_tests a.z (device a.flash.now a.spare.now []) a.text.now) ≡ 0 = sym c.refusal-number.ensures ∙ c.if-number-ne0.false in
-    let flash-filled = c in
-    let choice = flash-filled in
-    let a = choice.args in
-    let pass = accepted a.z (device a.flash.now a.spare.now []) a.text.now (taken) in record { limits = (pass.bounds, all_read a.z [] (lines_of a.text.now) pass.sound); flash_len = (omega (arith, flash-filled.flash-1.given, pass.flash_length), omega (arith, c.spare-1.given, pass.spare_length)) }
+lay_lines-requires c =
+    let a = c.args in
+    let d = device a.flash.now a.spare.now [] in
+    let taken : first_failed (read_tests a.z d a.text.now) ≡ 0 = sym c.refusal-number.ensures ∙ c.if-number-ne0.false in
+    let pass = accepted a.z d a.text.now taken in record {
+      limits = (pass.bounds, all_read a.z [] (lines_of a.text.now) pass.sound);
+      flash_len = (omega (arith, c.fill.auto.area, pass.flash_length), omega (arith, c.fill-2.auto.area, pass.spare_length));
+    }
 
 pub returns : goal.returns
 unfolding image_of erased_chip
-returns c = let taken : let a = c.args in
-    first_failed (read_tests a.z (device a.flash.now a.spare.now []) a.text.now) ≡ 0 = sym c.refusal-number.ensures ∙ c.if-number-ne0.false in
-    let laid = c in
-    let spare-filled = laid in
-    let flash-filled = spare-filled in
-    let choice = flash-filled in
-    let a = choice.args in
+returns c =
+    let a = c.args in
     let d = device a.flash.now a.spare.now [] in
-    let pass = accepted a.z d a.text.now (taken) in
-    rw (laid.lay_lines.ensures, spare-filled.fill-2.ensures, flash-filled.fill.ensures, pass.flash_length, pass.spare_length)
-    (text_taken a.z d a.text.now (taken))
+    let taken : first_failed (read_tests a.z d a.text.now) ≡ 0 = sym c.refusal-number.ensures ∙ c.if-number-ne0.false in
+    let pass = accepted a.z d a.text.now taken in
+    rw (c.lay_lines.ensures, c.fill-2.ensures, c.fill.ensures, pass.flash_length, pass.spare_length) (text_taken a.z d a.text.now taken)

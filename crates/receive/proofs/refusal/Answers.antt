@@ -16,11 +16,13 @@ returns-then-number-ne0 c = let a = c.args in
 
 pub first_fault-fault-requires : goal.first_fault-fault-requires
 unfolding chip_tests
-first_fault-fault-requires c = let taken : let a = c.args in first_failed (chip_tests a.z (device a.flash.now a.spare.now [])) ≡ 0 = sym c.chip_refusal-number.ensures ∙ c.if-number-ne0.false in
+first_fault-fault-requires c =
     let a = c.args in
-    (chip_passed a.z (device a.flash.now a.spare.now []) [] (taken)).0
+    let taken : first_failed (chip_tests a.z (device a.flash.now a.spare.now [])) ≡ 0 = sym c.chip_refusal-number.ensures ∙ c.if-number-ne0.false in
+    (chip_passed a.z (device a.flash.now a.spare.now []) [] taken).0
 
 pub returns : goal.returns
-returns c = let taken : let a = c.args in first_failed (chip_tests a.z (device a.flash.now a.spare.now [])) ≡ 0 = sym c.chip_refusal-number.ensures ∙ c.if-number-ne0.false in
+returns c =
     let a = c.args in
+    let taken : first_failed (chip_tests a.z (device a.flash.now a.spare.now [])) ≡ 0 = sym c.chip_refusal-number.ensures ∙ c.if-number-ne0.false in
     rw (c.first_fault-fault.ensures.0, fault_last a.z (device a.flash.now a.spare.now []) a.text.now, taken)

@@ -20,12 +20,10 @@ unfolding count_below
 loop-page-init c = (omega arith, refl)
 
 pub is_listed-requires : goal.is_listed-requires
-is_listed-requires c = let start = c in
-    rw start.requires.1 (tag_inside start.args.z c.loop-page.page c.loop-page-test.true)
+is_listed-requires c = rw c.requires.1 (tag_inside c.args.z c.loop-page.page c.loop-page-test.true)
 
 pub overflow_add-count : goal.overflow_add-count
-overflow_add-count c = let start = c in
-    omega (arith, count_le c.loop-page.page (listed start.args.spare.now), (products start.requires.0).pages)
+overflow_add-count c = omega (arith, count_le c.loop-page.page (listed c.args.spare.now), (products c.requires.0).pages)
 
 pub overflow_add-page : goal.overflow_add-page
 overflow_add-page c = omega (arith, (products c.requires.0).pages)

@@ -5,10 +5,8 @@ use Rattle.geometry.proofs.Passed.{products}
 use Rattle.send.proofs.place_bytes.Goals as goal
 
 pub overflow_cast-result : goal.overflow_cast-result
-overflow_cast-result c = let start = c in
-    omega (arith, (products start.requires.0).pages, div-le_self start.args.page start.args.z.p)
+overflow_cast-result c = omega (arith, (products c.requires.0).pages, div-le_self c.args.page c.args.z.p)
 
 pub overflow_cast-result-3 : goal.overflow_cast-result-3
-overflow_cast-result-3 c = let start = c in
-    let some = start.requires.0.p_low in
-    omega (arith, start.requires.0.p_high, mod-lt start.args.page some)
+overflow_cast-result-3 c = let some = c.requires.0.p_low in
+    omega (arith, c.requires.0.p_high, mod-lt c.args.page some)

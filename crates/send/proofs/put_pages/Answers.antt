@@ -26,8 +26,7 @@ unfolding below row keep concat_map
 loop-page-init c = (omega arith, refl, refl, sym (splice-none c.args.text.now 0))
 
 pub is_listed-requires : goal.is_listed-requires
-is_listed-requires c = let s = c in
-    rw s.requires.limits.2 (tag_inside s.args.z c.loop-page.page c.loop-page-test.true)
+is_listed-requires c = rw c.requires.limits.2 (tag_inside c.args.z c.loop-page.page c.loop-page-test.true)
 
 pub put_page-requires : goal.put_page-requires
 unfolding is_listed
