@@ -14,7 +14,7 @@ pub struct Streams {
     input: Stdin,
     output: Stdout,
     errors: Stderr,
-    pub error: Option<Error>,
+    pub failure: Option<Error>,
 }
 
 // What a read gave: so many bytes or the end of the input; neither where it failed.
@@ -30,7 +30,7 @@ pub fn open(rt: &HostRuntime) -> Streams {
         input: rt.stdin(),
         output: rt.stdout(),
         errors: rt.stderr(),
-        error: None,
+        failure: None,
     }
 }
 
@@ -56,7 +56,7 @@ fn again(answer: &io::Result<usize>, tries: u64) -> bool
 // A proved loop has to end, and nothing says that the other side will be ready: the loop counts its tries down.
 pub fn read_piece(streams: &mut Streams, piece: &mut [u8]) -> Got
     ensures count { (result.count ≤ length piece.new) × (result.ended ≡ true → result.count ≡ 0) }
-    ensures reason { result.count ≡ 0 → result.ended ≡ false → IsSome streams.new.error }
+    ensures reason { result.count ≡ 0 → result.ended ≡ false → IsSome streams.new.failure }
 {
     let mut got = streams.input.read(piece);
     let mut tries = u64::MAX;
@@ -70,7 +70,7 @@ pub fn read_piece(streams: &mut Streams, piece: &mut [u8]) -> Got
             ended: count == 0,
         },
         Err(error) => {
-            streams.error = Some(error);
+            streams.failure = Some(error);
             Got {
                 count: 0,
                 ended: false,
@@ -92,7 +92,7 @@ fn write_some(streams: &mut Streams, text: &[u8]) -> usize
     match put {
         Ok(count) => count,
         Err(error) => {
-            streams.error = Some(error);
+            streams.failure = Some(error);
             0
         }
     }
@@ -123,7 +123,7 @@ pub fn say(streams: &Streams, words: &[u8]) {
 pub fn fail(streams: &Streams, what: &[u8]) {
     say(streams, what);
     say(streams, b": ");
-    if let Some(error) = &streams.error {
+    if let Some(error) = &streams.failure {
         let reason = reason::reason_of(error);
         say(streams, reason.words());
     }
