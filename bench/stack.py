@@ -53,8 +53,8 @@ pub extern "C" fn {name}(
 }}
 """
 
-# A frame of many pages is made page by page: sub $0xSIZE,%r11, then a loop.
-PAGE_BY_PAGE = ["mov %rsp,%r11", "sub", "sub $0x1000,%rsp", "movq $0x0,(%rsp)", "cmp %r11,%rsp", "jne"]
+# A large frame is made piece by piece: sub $0xSIZE,%r11, then a loop.
+PIECE_BY_PIECE = ["mov %rsp,%r11", "sub", "sub $0xc00,%rsp", "movq $0x0,(%rsp)", "cmp %r11,%rsp", "jne"]
 
 Instruction = collections.namedtuple("Instruction", "place name operands symbol")
 
@@ -114,10 +114,10 @@ def functions(library):
 
 
 def frame_at_once(code):
-    """The same with a frame that is made page by page made by one instruction."""
+    """The same with a frame that is made piece by piece made by one instruction."""
     for at, first in enumerate(code):
-        loop = code[at:at + len(PAGE_BY_PAGE)]
-        if all(f"{one.name} {one.operands}".startswith(form) for one, form in zip(loop, PAGE_BY_PAGE)):
+        loop = code[at:at + len(PIECE_BY_PIECE)]
+        if all(f"{one.name} {one.operands}".startswith(form) for one, form in zip(loop, PIECE_BY_PIECE)):
             size = loop[1].operands.replace("%r11", "%rsp")
             return code[:at] + [first._replace(name="sub", operands=size)] + code[at + len(loop):]
     return code
