@@ -1,14 +1,12 @@
 -- What a line's request says of the line.
 use mathlib.Core.Path.{◌≡◌, refl, sym, ap, ◌∙◌}
 use mathlib.Core.Bool.{Bool, true, false}
-use mathlib.Core.List.{List, [], ◌∷◌}
+use mathlib.Core.List.{List}
 use Prim.Native.Nat.{ℕ, ◌≤◌}
 use native.Mathlib.Omega.{arith}
 use borrow.Author.Tests.{eqb-true, leb-true, not-true, not-false}
 use lib.ListN.{length, drop, replicate, length-replicate}
 use lib.Dec.{eqb}
-use types.Run.{OneOf, miss}
-use denote.Enum.Declared.{tag_of}
 use Rattle.lists.specs.Lists.{if◌then◌else◌, all}
 use Rattle.lists.proofs.Tests.{every_at}
 use Rattle.model.specs.declared.Sizes.{Sizes}
@@ -19,7 +17,6 @@ use Rattle.model.proofs.Digits.{bytes_length}
 use Rattle.frame.specs.declared.Request.{Request}
 use Rattle.frame.specs.declared.Request.TheVariants.{Bad, Format, Read, Write, Erase, Drain, Recover}
 use Rattle.frame.specs.Request.{request_of, is_format}
-use Rattle.frame.specs.contracts.Request.{the_type}
 use Rattle.frame.proofs.Asked.{format_asked}
 use Rattle.frame.proofs.Fits.{fits_digits}
 use Rattle.frame.proofs.Meaning.{is_bad, frame_format, line_bad, line_asks}
@@ -59,17 +56,17 @@ pub asked_bad : (line : List ℕ) → Bad ≡ request_of line → line_fits line
 unfolding is_bad
 asked_bad line e = not-true (line_fits line) (sym (line_bad line) ∙ ap is_bad (sym e))
 
--- a request that is neither bad nor a format, by the number of its variant
-pub other_request : (t : Bool) (kept : Sizes) (q : Request) → OneOf (2 ∷ 3 ∷ 4 ∷ 5 ∷ 6 ∷ []) (tag_of the_type q)
+-- a request that is neither bad nor a format
+pub other_request : (t : Bool) (kept : Sizes) (q : Request) → (q ≡ Bad → ⊥) → ((n : ℕ) (z : Sizes) → q ≡ Format n z → ⊥)
     → (unmade t q ≡ (if t then 0 else 3)) × (sizes_asked q kept ≡ kept) × (is_format q ≡ false)
 unfolding unmade sizes_asked is_format
-other_request t kept Bad h = absurd (miss (2 ∷ 3 ∷ 4 ∷ 5 ∷ 6 ∷ []) 0 tt h)
-other_request t kept (Format n z) h = absurd (miss (2 ∷ 3 ∷ 4 ∷ 5 ∷ 6 ∷ []) 1 tt h)
-other_request t kept (Read n b off len) h = (refl, refl, refl)
-other_request t kept (Write n b off placed) h = (refl, refl, refl)
-other_request t kept (Erase n) h = (refl, refl, refl)
-other_request t kept (Drain n) h = (refl, refl, refl)
-other_request t kept (Recover n) h = (refl, refl, refl)
+other_request t kept Bad b f = absurd (b refl)
+other_request t kept (Format n z) b f = absurd (f n z refl)
+other_request t kept (Read n b off len) _ _ = (refl, refl, refl)
+other_request t kept (Write n b off placed) _ _ = (refl, refl, refl)
+other_request t kept (Erase n) _ _ = (refl, refl, refl)
+other_request t kept (Drain n) _ _ = (refl, refl, refl)
+other_request t kept (Recover n) _ _ = (refl, refl, refl)
 
 -- the bytes that a line may read
 pub read_short : (z : Sizes) (line : List ℕ) → all is_digit line ≡ true → length (lent_buffer (call_of z (bytes_of line))) ≤ 65535
