@@ -8,7 +8,8 @@ use native.Mathlib.Decide.{ℕ_discrete, dec_lt}
 use lib.ListN.{length}
 use lib.Dec.{ltb, eqb}
 use borrow.Author.Tests.{eq-eqb, ne_eqb, eqb-true, lt-ltb, ltb-true, not-true}
-use Rattle.lists.specs.Lists.{if◌then◌else◌, any, keep, below, member, times}
+use Rattle.std.specs.Prelude.{if◌then◌else◌}
+use Rattle.lists.specs.Lists.{any, keep, below, member, times}
 use Rattle.lists.proofs.Tests.{and_left, and_right, and-true, same_truth}
 use Rattle.lists.proofs.Rows.{below_all}
 use Rattle.lists.proofs.Counts.{times_self, times_cons, times_append}

@@ -10,7 +10,8 @@ use lib.ListN.{length, take, drop, get_or, set, drop_of_length-le}
 use lib.Seq.{drop-cons, take_all, length-take-le, get_or_at, append_snoc}
 use lib.Dec.{ltb, eqb}
 use borrow.Author.Tests.{eq-eqb, ne_eqb, not-true}
-use Rattle.lists.specs.Lists.{if◌then◌else◌, keep, member, times}
+use Rattle.std.specs.Prelude.{if◌then◌else◌}
+use Rattle.lists.specs.Lists.{keep, member, times}
 use Rattle.lists.proofs.Arrays.{done_more}
 use Rattle.lists.proofs.Lent.{copy_more}
 use Rattle.lists.proofs.Counts.{times-member}

@@ -1,6 +1,6 @@
 -- The used cache buckets in one order, and columns of back-end buckets beside it.
-use Rattle.std.specs.Prelude.{ℕ, ◌≡◌, Bool, not, ◌&&◌, List, [], ◌∷◌, map, length, ltb, eqb}
-use Rattle.lists.specs.Lists.{if◌then◌else◌, keep, times}
+use Rattle.std.specs.Prelude.{ℕ, ◌≡◌, Bool, not, ◌&&◌, List, [], ◌∷◌, map, length, ltb, eqb, if◌then◌else◌}
+use Rattle.lists.specs.Lists.{keep, times}
 use Rattle.model.specs.declared.Sizes.{Sizes}
 use Rattle.model.specs.Sizes.{Device}
 use Rattle.model.specs.Image.{used, back_of, is_write, is_copy, complete}

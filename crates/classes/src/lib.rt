@@ -3,8 +3,8 @@
 // the others; each list of recovery is a selection of the order.
 #![tactic(auto)]
 
-ghost use Rattle.std.specs.Prelude.{◌≡◌, true, map, ◌≤◌, ◌<◌, length};
-ghost use Rattle.lists.specs.Lists.{if◌then◌else◌, times};
+ghost use Rattle.std.specs.Prelude.{◌≡◌, true, map, ◌≤◌, ◌<◌, length, if◌then◌else◌};
+ghost use Rattle.lists.specs.Lists.{times};
 ghost use Rattle.model.specs.Sizes.{body};
 ghost use Rattle.model.specs.Image.{is_write, is_copy, body_fits};
 ghost use Rattle.model.specs.Recover.{buckets, is_chosen, is_dropped_write, is_dropped_copy, is_old_copy, is_spent};

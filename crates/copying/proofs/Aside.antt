@@ -7,7 +7,8 @@ use native.Mathlib.Omega.{arith}
 use native.Mathlib.Decide.{dec_lt}
 use lib.Dec.{ltb}
 use borrow.Author.Tests.{lt-ltb, le-ltb, not-true}
-use Rattle.lists.specs.Lists.{if◌then◌else◌, empty, member, times}
+use Rattle.std.specs.Prelude.{if◌then◌else◌}
+use Rattle.lists.specs.Lists.{empty, member, times}
 use Rattle.lists.proofs.Tests.{every_at, true_or_false}
 use Rattle.lists.proofs.Counts.{head_in, empty-length, times-member}
 use Rattle.model.specs.Sizes.{Device, body}

@@ -7,7 +7,8 @@ use mathlib.Core.List.{List, [], ◌∷◌}
 use native.Mathlib.Omega.{arith}
 use native.Mathlib.Decide.{ℕ_discrete}
 use lib.Dec.{eqb}
-use Rattle.lists.specs.Lists.{if◌then◌else◌, times}
+use Rattle.std.specs.Prelude.{if◌then◌else◌}
+use Rattle.lists.specs.Lists.{times}
 use Rattle.lists.proofs.Tests.{true_or_false}
 use Rattle.lists.proofs.Counts.{times_self, times_cons}
 use Rattle.model.specs.declared.Sizes.{Sizes}

@@ -1,6 +1,6 @@
 -- Logs in a bucket just allocated: when one can be made, and its stores.
-use Rattle.std.specs.Prelude.{ℕ, ◌≤◌, ◌<◌, not, ◌&&◌, List, [], ◌++◌, length}
-use Rattle.lists.specs.Lists.{if◌then◌else◌, head, empty, times}
+use Rattle.std.specs.Prelude.{ℕ, ◌≤◌, ◌<◌, not, ◌&&◌, List, [], ◌++◌, length, if◌then◌else◌}
+use Rattle.lists.specs.Lists.{head, empty, times}
 use Rattle.model.specs.declared.Sizes.{Sizes}
 use Rattle.model.specs.Sizes.{Device, bucket_size, body}
 use Rattle.model.specs.Stores.{Store}

@@ -1,6 +1,6 @@
 -- The bytes of a back-end bucket by where they stand, and a cache bucket that they can be laid into.
-use Rattle.std.specs.Prelude.{ℕ, ◌<◌, ◌≡◌, true, false, ◌≢◌, List}
-use Rattle.lists.specs.Lists.{if◌then◌else◌, all, member}
+use Rattle.std.specs.Prelude.{ℕ, ◌<◌, ◌≡◌, true, false, ◌≢◌, List, if◌then◌else◌}
+use Rattle.lists.specs.Lists.{all, member}
 use Rattle.model.specs.declared.Sizes.{Sizes}
 use Rattle.model.specs.declared.Entry.{Entry}
 use Rattle.model.specs.Sizes.{Device, body}

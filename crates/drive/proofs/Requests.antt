@@ -7,7 +7,8 @@ use native.Mathlib.Omega.{arith}
 use borrow.Author.Tests.{eqb-true, leb-true, not-true, not-false}
 use lib.ListN.{length, drop, replicate, length-replicate}
 use lib.Dec.{eqb}
-use Rattle.lists.specs.Lists.{if◌then◌else◌, all}
+use Rattle.std.specs.Prelude.{if◌then◌else◌}
+use Rattle.lists.specs.Lists.{all}
 use Rattle.lists.proofs.Tests.{every_at}
 use Rattle.model.specs.declared.Sizes.{Sizes}
 use Rattle.model.specs.Spare.{two}

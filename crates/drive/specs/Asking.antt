@@ -1,6 +1,5 @@
 -- What becomes of a line by its request, before any call.
-use Rattle.std.specs.Prelude.{ℕ, Bool, not}
-use Rattle.lists.specs.Lists.{if◌then◌else◌}
+use Rattle.std.specs.Prelude.{ℕ, Bool, not, if◌then◌else◌}
 use Rattle.model.specs.declared.Sizes.{Sizes}
 use Rattle.model.specs.Sizes.{limits}
 use Rattle.model.specs.Driving.{too_large}

@@ -1,6 +1,5 @@
 -- The structs that a line is given and hands back, seen with the program's arrays as document 01's recorder.
-use Rattle.std.specs.Prelude.{ℕ, ◌≤◌, ◌≡◌, Bool, true, false, ◌&&◌, ◌||◌, List, length, take}
-use Rattle.lists.specs.Lists.{if◌then◌else◌}
+use Rattle.std.specs.Prelude.{ℕ, ◌≤◌, ◌≡◌, Bool, true, false, ◌&&◌, ◌||◌, List, length, take, if◌then◌else◌}
 use Rattle.model.specs.declared.Sizes.{Sizes}
 use Rattle.model.specs.State.{unformatted}
 use Rattle.model.specs.Calls.{Outcome, is_done, call}

@@ -1,8 +1,7 @@
 // A line of the driving program: what is printed of it, and the recorder that it leaves.
 #![tactic(auto)]
 
-ghost use Rattle.std.specs.Prelude.{◌≡◌, true, [], ◌+◌, ◌*◌, ◌<◌, ◌≤◌, length, take};
-ghost use Rattle.lists.specs.Lists.{if◌then◌else◌};
+ghost use Rattle.std.specs.Prelude.{◌≡◌, true, [], ◌+◌, ◌*◌, ◌<◌, ◌≤◌, length, take, if◌then◌else◌};
 ghost use Rattle.model.specs.declared.Answer.TheVariants.{Done};
 ghost use Rattle.model.specs.Calls.{is_done};
 ghost use Rattle.model.specs.Driving.{bytes_of, line_fits, too_large, shown, printed, on_line};

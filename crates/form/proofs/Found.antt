@@ -10,7 +10,7 @@ use borrow.Author.Tests.{leb-true}
 use lib.ListN.{length, drop, get_or, length-append, length-drop}
 use lib.Seq.{get_or-drop, drop-drop}
 use lib.Dec.{leb, eqb}
-use Rattle.lists.specs.Lists.{if◌then◌else◌}
+use Rattle.std.specs.Prelude.{if◌then◌else◌}
 use Rattle.lists.specs.Arrays.{joined}
 use Rattle.lists.proofs.Arrays.{joined-fits}
 use Rattle.lists.proofs.Tests.{and_left, and_right}

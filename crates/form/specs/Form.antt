@@ -1,6 +1,6 @@
 -- The form of a state: its bytes, numbers high byte first. Its head, then its queues, each a count and so many rows.
-use Rattle.std.specs.Prelude.{ℕ, Bool, true, false, not, ◌&&◌, List, [], ◌∷◌, ◌++◌, map, length, drop, get_or, leb, eqb}
-use Rattle.lists.specs.Lists.{if◌then◌else◌, every, all}
+use Rattle.std.specs.Prelude.{ℕ, Bool, true, false, not, ◌&&◌, List, [], ◌∷◌, ◌++◌, map, length, drop, get_or, leb, eqb, if◌then◌else◌}
+use Rattle.lists.specs.Lists.{every, all}
 use Rattle.model.specs.declared.Sizes.{Sizes}
 use Rattle.model.specs.declared.Entry.{Entry}
 use Rattle.model.specs.State.{State}

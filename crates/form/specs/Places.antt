@@ -1,6 +1,5 @@
 -- Places in the bytes of a form.
-use Rattle.std.specs.Prelude.{ℕ, ◌+◌, List, length, drop, ltb}
-use Rattle.lists.specs.Lists.{if◌then◌else◌}
+use Rattle.std.specs.Prelude.{ℕ, ◌+◌, List, length, drop, ltb, if◌then◌else◌}
 use Rattle.form.specs.Rows.{table_size, table_fits}
 
 -- the place behind the table at a place, if it stands there whole; else one beyond the last byte, and a place beyond stays

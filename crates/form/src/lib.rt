@@ -4,8 +4,8 @@
 mod reading;
 mod writing;
 
-ghost use Rattle.std.specs.Prelude.{◌≡◌, ◌&&◌, ◌≤◌, length, leb};
-ghost use Rattle.lists.specs.Lists.{if◌then◌else◌, splice};
+ghost use Rattle.std.specs.Prelude.{◌≡◌, ◌&&◌, ◌≤◌, length, leb, if◌then◌else◌};
+ghost use Rattle.lists.specs.Lists.{splice};
 ghost use Rattle.model.specs.State.{unformatted};
 ghost use Rattle.state.specs.View.{view_of, state_of};
 ghost use Rattle.form.specs.Form.{form_of, has_form, is_form, state_in};

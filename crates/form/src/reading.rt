@@ -1,6 +1,6 @@
 // Bytes to state.
-ghost use Rattle.std.specs.Prelude.{◌≡◌, true, List, ℕ, ◌+◌, ◌^◌, ◌≤◌, ◌<◌, length, drop, get_or};
-ghost use Rattle.lists.specs.Lists.{if◌then◌else◌, all};
+ghost use Rattle.std.specs.Prelude.{◌≡◌, true, List, ℕ, ◌+◌, ◌^◌, ◌≤◌, ◌<◌, length, drop, get_or, if◌then◌else◌};
+ghost use Rattle.lists.specs.Lists.{all};
 ghost use Rattle.fifo.specs.View.{fifo_of};
 ghost use Rattle.queue.specs.View.{queue_of};
 ghost use Rattle.state.specs.View.{state_of};

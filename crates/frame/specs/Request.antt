@@ -1,6 +1,5 @@
 -- What a line asks for.
-use Rattle.std.specs.Prelude.{ℕ, Bool, true, false, List, length, drop, eqb}
-use Rattle.lists.specs.Lists.{if◌then◌else◌}
+use Rattle.std.specs.Prelude.{ℕ, Bool, true, false, List, length, drop, eqb, if◌then◌else◌}
 use Rattle.model.specs.Spare.{two}
 use Rattle.model.specs.Driving.{bytes_of, operation, allowance, format_sizes, line_fits}
 use Rattle.frame.specs.declared.Request.{Request}

@@ -1,6 +1,5 @@
 -- The epochs of a chip as recovery finds it.
-use Rattle.std.specs.Prelude.{ℕ, ◌<◌, ◌≡◌, true}
-use Rattle.lists.specs.Lists.{if◌then◌else◌}
+use Rattle.std.specs.Prelude.{ℕ, ◌<◌, ◌≡◌, true, if◌then◌else◌}
 use Rattle.model.specs.declared.Sizes.{Sizes}
 use Rattle.model.specs.Sizes.{Device}
 use Rattle.model.specs.Stores.{tag_of}

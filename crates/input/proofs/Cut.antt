@@ -8,7 +8,8 @@ use native.Mathlib.Decide.{dec_lt}
 use lib.ListN.{length, take}
 use lib.Seq.{take_all, take-append-le, length-take-le}
 use lib.Dec.{eqb}
-use Rattle.lists.specs.Lists.{if◌then◌else◌, empty}
+use Rattle.std.specs.Prelude.{if◌then◌else◌}
+use Rattle.lists.specs.Lists.{empty}
 use Rattle.model.specs.Driving.{Recorder, on_line, lines_from, on_lines}
 use Rattle.frame.proofs.Fits.{too_long}
 use Rattle.drive.proofs.Ways.{bad_line}

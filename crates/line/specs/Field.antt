@@ -1,7 +1,6 @@
 -- Fields of a frame, and a walk from one to the next.
-use Rattle.std.specs.Prelude.{ℕ, ◌+◌, List, get_or, eqb}
+use Rattle.std.specs.Prelude.{ℕ, ◌+◌, List, get_or, eqb, if◌then◌else◌}
 use Rattle.std.specs.Borrow.{Bor}
-use Rattle.lists.specs.Lists.{if◌then◌else◌}
 use Rattle.model.specs.Spare.{two}
 use Rattle.model.specs.Driving.{bytes_of}
 use Rattle.line.specs.declared.Line.{Line}

@@ -9,7 +9,8 @@ use native.Mathlib.Omega.{arith}
 use lib.ListN.{length, take, drop, get_or, set, replicate, length-append, length-take, length-map, length-replicate, replicate-append-replicate, take-append-drop, drop_of_length-le}
 use lib.Seq.{take-suc, take-suc-set, take_all, take_at, take-nil, slice-cons, length-take-le, paste, paste-suc, drop-paste, get_or-drop}
 use lib.Dec.{eqb, eqb-suc-zero}
-use Rattle.lists.specs.Lists.{if◌then◌else◌, all, keep, empty}
+use Rattle.std.specs.Prelude.{if◌then◌else◌}
+use Rattle.lists.specs.Lists.{all, keep, empty}
 use Rattle.lists.specs.Arrays.{joined, padded}
 use Rattle.lists.proofs.Tests.{and_left, and_right}
 use Rattle.lists.proofs.Rows.{map_append}

@@ -10,7 +10,8 @@ use native.Mathlib.Decide.{ℕ_discrete, dec_lt}
 use lib.ListN.{length, drop}
 use lib.Dec.{ltb, eqb}
 use borrow.Author.Tests.{ne_eqb, eq-eqb, lt-ltb, le-ltb}
-use Rattle.lists.specs.Lists.{if◌then◌else◌, all, any, empty, head, member, times, distinct}
+use Rattle.std.specs.Prelude.{if◌then◌else◌}
+use Rattle.lists.specs.Lists.{all, any, empty, head, member, times, distinct}
 use Rattle.lists.proofs.Tests.{and_left, and_right, and-true}
 
 -- ---- one element

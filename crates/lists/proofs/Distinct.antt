@@ -8,7 +8,8 @@ use native.Mathlib.Omega.{arith}
 use native.Mathlib.Decide.{ℕ_discrete}
 use lib.Dec.{eqb}
 use borrow.Author.Tests.{eqb-true, eq-eqb, ne_eqb, not-true}
-use Rattle.lists.specs.Lists.{if◌then◌else◌, row, any, keep, below, member, distinct}
+use Rattle.std.specs.Prelude.{if◌then◌else◌}
+use Rattle.lists.specs.Lists.{row, any, keep, below, member, distinct}
 use Rattle.lists.proofs.Tests.{and_left, and_right, and-true, or-true, or_cases}
 use Rattle.lists.proofs.Rows.{map_append}
 

@@ -8,7 +8,8 @@ use native.Mathlib.Omega.{arith}
 use lib.ListN.{length, take, get_or, length-append}
 use lib.Dec.{ltb, eqb}
 use borrow.Author.Tests.{ltb-true, lt-ltb, le-ltb, eq-eqb}
-use Rattle.lists.specs.Lists.{if◌then◌else◌, row, any, keep, below, count_below, member, times, insert_by, sort_into, sort_by}
+use Rattle.std.specs.Prelude.{if◌then◌else◌}
+use Rattle.lists.specs.Lists.{row, any, keep, below, count_below, member, times, insert_by, sort_into, sort_by}
 use Rattle.lists.proofs.Tests.{same_truth}
 use Rattle.lists.proofs.Rows.{below_more}
 use Rattle.lists.proofs.Turns.{keep_append}

@@ -9,7 +9,8 @@ use native.Mathlib.Decide.{ℕ_discrete, dec_lt}
 use lib.ListN.{length}
 use lib.Dec.{ltb, eqb}
 use borrow.Author.Tests.{ltb-true, ltb-false, lt-ltb, le-ltb, eq-eqb, ne_eqb}
-use Rattle.lists.specs.Lists.{if◌then◌else◌, row, any, keep, below, member, times, distinct, insert_by, sort_into, sort_by}
+use Rattle.std.specs.Prelude.{if◌then◌else◌}
+use Rattle.lists.specs.Lists.{row, any, keep, below, member, times, distinct, insert_by, sort_into, sort_by}
 use Rattle.lists.proofs.Tests.{and-true, or_cases}
 use Rattle.lists.proofs.Counts.{times_self, times_other, times_cons, times_append, times-member}
 

@@ -13,7 +13,8 @@ use lib.ListN.{length, take, get_or, length-append, get_or-append}
 use lib.Seq.{get_or_at, take_all, take-nil, take-append-le}
 use lib.Dec.{leb}
 use borrow.Author.Tests.{le-leb, lt-leb}
-use Rattle.lists.specs.Lists.{if◌then◌else◌, row, below, all_below, any_below, count_below, max_below, concat_map}
+use Rattle.std.specs.Prelude.{if◌then◌else◌}
+use Rattle.lists.specs.Lists.{row, below, all_below, any_below, count_below, max_below, concat_map}
 use Rattle.lists.proofs.Tests.{and_left, and_right, and-true, true_or_false, or_right, or_left, or_second}
 
 -- ---- rows

@@ -4,7 +4,8 @@ use mathlib.Core.Bool.{Bool, true, false, ◌&&◌}
 use mathlib.Core.List.{List, [], ◌∷◌, ◌++◌, map, append-nil}
 use Prim.Native.Nat.{ℕ, ◌+◌}
 use native.Mathlib.Numerals.{add-one}
-use Rattle.lists.specs.Lists.{if◌then◌else◌, row, below, all_below, count_below, keep}
+use Rattle.std.specs.Prelude.{if◌then◌else◌}
+use Rattle.lists.specs.Lists.{row, below, all_below, count_below, keep}
 use Rattle.lists.proofs.Rows.{map_append}
 
 module _ {A : Type 0} (t : A → Bool) where

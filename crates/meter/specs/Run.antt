@@ -1,6 +1,5 @@
 -- Stores under an allowance, one after the other.
-use Rattle.std.specs.Prelude.{ℕ, ◌-◌, min, true, false, ◌||◌, List, [], ◌∷◌, ltb, eqb}
-use Rattle.lists.specs.Lists.{if◌then◌else◌}
+use Rattle.std.specs.Prelude.{ℕ, ◌-◌, min, true, false, ◌||◌, List, [], ◌∷◌, ltb, eqb, if◌then◌else◌}
 use Rattle.model.specs.declared.Sizes.{Sizes}
 use Rattle.model.specs.declared.Answer.TheVariants.{Cut}
 use Rattle.model.specs.Sizes.{Device}

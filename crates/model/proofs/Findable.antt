@@ -6,7 +6,8 @@ use mathlib.Core.Bool.{Bool, true, false, not, true≢false}
 use mathlib.Core.List.{List}
 use native.Mathlib.Omega.{arith}
 use native.Mathlib.Decide.{ℕ_discrete}
-use Rattle.lists.specs.Lists.{if◌then◌else◌, ff}
+use Rattle.std.specs.Prelude.{if◌then◌else◌}
+use Rattle.lists.specs.Lists.{ff}
 use Rattle.lists.proofs.Tests.{true_or_false, or_left, or_second, and-true, every_more, every-none}
 use Rattle.lists.proofs.Rows.{below_all}
 use Rattle.lists.proofs.Distinct.{differ_distinct}

@@ -9,7 +9,8 @@ use native.Mathlib.Decide.{dec_lt}
 use lib.ListN.{length}
 use lib.Dec.{ltb, eqb}
 use borrow.Author.Tests.{lt-ltb, le-ltb, ltb-true, le-leb, leb-true, eq-eqb, eqb-true}
-use Rattle.lists.specs.Lists.{if◌then◌else◌, all, times, distinct, ff}
+use Rattle.std.specs.Prelude.{if◌then◌else◌}
+use Rattle.lists.specs.Lists.{all, times, distinct, ff}
 use Rattle.lists.proofs.Tests.{every_at, every_more, every-none, and_left, and_right, and-true}
 use Rattle.lists.proofs.Rows.{all-below, below_all, count_full, count_all}
 use Rattle.lists.proofs.Counts.{all_in, in_all, length_once}

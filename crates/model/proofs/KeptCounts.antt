@@ -8,7 +8,8 @@ use native.Mathlib.Omega.{arith}
 use native.Mathlib.Decide.{ℕ_discrete}
 use lib.Dec.{leb}
 use borrow.Author.Tests.{eq-eqb, ne_eqb}
-use Rattle.lists.specs.Lists.{if◌then◌else◌, all, times}
+use Rattle.std.specs.Prelude.{if◌then◌else◌}
+use Rattle.lists.specs.Lists.{all, times}
 use Rattle.lists.proofs.Tests.{true_or_false, and_left, and_right, and-true}
 use Rattle.lists.proofs.Rows.{count_alike}
 use Rattle.lists.proofs.Counts.{times_self, times_cons}

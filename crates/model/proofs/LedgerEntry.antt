@@ -9,7 +9,8 @@ use native.Mathlib.Decide.{ℕ_discrete, dec_lt}
 use lib.ListN.{length}
 use lib.Dec.{ltb, eqb}
 use borrow.Author.Tests.{ltb-true, lt-ltb, eq-eqb, ne_eqb}
-use Rattle.lists.specs.Lists.{if◌then◌else◌, same, ff}
+use Rattle.std.specs.Prelude.{if◌then◌else◌}
+use Rattle.lists.specs.Lists.{same, ff}
 use Rattle.lists.proofs.Tests.{true_or_false, and_right, and-true, or_left, or_right, or_second}
 use Rattle.lists.proofs.Sames.{same_self}
 use Rattle.lists.proofs.Rows.{below_all}

@@ -7,7 +7,8 @@ use mathlib.Core.List.{List}
 use native.Mathlib.Omega.{arith}
 use native.Mathlib.Decide.{ℕ_discrete, dec_lt}
 use borrow.Author.Tests.{eqb-true, eq-eqb}
-use Rattle.lists.specs.Lists.{if◌then◌else◌, part, ff}
+use Rattle.std.specs.Prelude.{if◌then◌else◌}
+use Rattle.lists.specs.Lists.{part, ff}
 use Rattle.lists.proofs.Tests.{same_truth, every_at, every_more, every-none}
 use Rattle.lists.proofs.Rows.{all-below, below_all, any_below_lem, below-any}
 use Rattle.lists.proofs.Parts.{length-ff}

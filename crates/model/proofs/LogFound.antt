@@ -10,7 +10,8 @@ use native.Mathlib.Nat.{mul-le-mul_right, add-zero}
 use lib.ListN.{length, get_or}
 use lib.Dec.{leb, ltb}
 use borrow.Author.Tests.{ne_eqb, eq-eqb, lt-ltb, le-ltb, le-leb, lt-leb}
-use Rattle.lists.specs.Lists.{if◌then◌else◌, ff}
+use Rattle.std.specs.Prelude.{if◌then◌else◌}
+use Rattle.lists.specs.Lists.{ff}
 use Rattle.lists.proofs.Tests.{and-true, if_true, if_false}
 use Rattle.lists.proofs.Parts.{get_d_part, part_alike}
 use Rattle.model.specs.declared.Sizes.{Sizes}

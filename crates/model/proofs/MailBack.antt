@@ -7,7 +7,8 @@ use native.Mathlib.Omega.{arith}
 use native.Mathlib.Decide.{ℕ_discrete}
 use lib.Dec.{eqb}
 use borrow.Author.Tests.{eq-eqb, ne_eqb}
-use Rattle.lists.specs.Lists.{if◌then◌else◌, below, any, keep, member, times, ff}
+use Rattle.std.specs.Prelude.{if◌then◌else◌}
+use Rattle.lists.specs.Lists.{below, any, keep, member, times, ff}
 use Rattle.lists.proofs.Counts.{times_self, times_cons, times-member}
 use Rattle.lists.proofs.Orders.{kept_below, kept_once}
 use Rattle.lists.proofs.Filters.{member_kept}

@@ -5,7 +5,8 @@ use mathlib.Core.Bool.{Bool, true, false, not, true≢false}
 use mathlib.Core.List.{List, [], ◌∷◌, map}
 use native.Mathlib.Nat.{mul_assoc}
 use native.Mathlib.Decide.{ℕ_discrete}
-use Rattle.lists.specs.Lists.{if◌then◌else◌, below, all, concat_map, ff}
+use Rattle.std.specs.Prelude.{if◌then◌else◌}
+use Rattle.lists.specs.Lists.{below, all, concat_map, ff}
 use Rattle.lists.proofs.Tests.{and_left, and_right}
 use Rattle.lists.proofs.Parts.{length-ff, part-ff}
 use Rattle.lists.proofs.Joins.{concat_alike, concat_whole}

@@ -7,7 +7,8 @@ use native.Mathlib.Omega.{arith}
 use lib.ListN.{length, length-drop}
 use lib.Dec.{eqb}
 use borrow.Author.Tests.{ltb-true, eqb-true, eqb-false}
-use Rattle.lists.specs.Lists.{if◌then◌else◌, all, member}
+use Rattle.std.specs.Prelude.{if◌then◌else◌}
+use Rattle.lists.specs.Lists.{all, member}
 use Rattle.lists.proofs.Tests.{and-true, every_at}
 use Rattle.lists.proofs.Parts.{length-part-fits}
 use Rattle.model.specs.declared.Sizes.{Sizes}

@@ -6,7 +6,8 @@ use mathlib.Core.List.{List, [], ◌∷◌}
 use lib.ListN.{length}
 use lib.Dec.{eqb}
 use borrow.Author.Tests.{eqb-true}
-use Rattle.lists.specs.Lists.{if◌then◌else◌, all}
+use Rattle.std.specs.Prelude.{if◌then◌else◌}
+use Rattle.lists.specs.Lists.{all}
 use Rattle.lists.proofs.Tests.{and_left, and_right}
 use Rattle.model.specs.declared.Sizes.{Sizes}
 use Rattle.model.specs.Tests.{first_failed}

@@ -10,7 +10,8 @@ use native.Mathlib.Nat.{mul-le-mul_right}
 use lib.ListN.{length, get_or}
 use lib.Dec.{leb, ltb}
 use borrow.Author.Tests.{le-leb, lt-leb, lt-ltb, le-ltb}
-use Rattle.lists.specs.Lists.{if◌then◌else◌, splice}
+use Rattle.std.specs.Prelude.{if◌then◌else◌}
+use Rattle.lists.specs.Lists.{splice}
 use Rattle.lists.proofs.Parts.{At, at, outside, inside, length-splice, length-part-fits}
 use Rattle.model.specs.declared.Sizes.{Sizes}
 use Rattle.model.specs.Sizes.{Device, bucket_size, body}

@@ -9,7 +9,8 @@ use lib.ListN.{length, drop, length-append}
 use lib.Seq.{drop_at}
 use lib.Dec.{leb, eqb}
 use borrow.Author.Tests.{eqb-true}
-use Rattle.lists.specs.Lists.{if◌then◌else◌, head}
+use Rattle.std.specs.Prelude.{if◌then◌else◌}
+use Rattle.lists.specs.Lists.{head}
 use Rattle.lists.proofs.Tests.{true_or_false, every_at}
 use Rattle.lists.proofs.Rows.{map_append}
 use Rattle.model.specs.declared.Sizes.{Sizes}

@@ -9,7 +9,8 @@ use native.Mathlib.Decide.{ℕ_discrete, dec_lt}
 use lib.ListN.{length, length-append}
 use lib.Dec.{leb, eqb}
 use borrow.Author.Tests.{eq-eqb, ne_eqb, le-leb, lt-leb}
-use Rattle.lists.specs.Lists.{if◌then◌else◌, same, ff}
+use Rattle.std.specs.Prelude.{if◌then◌else◌}
+use Rattle.lists.specs.Lists.{same, ff}
 use Rattle.lists.proofs.Tests.{true_or_false, or_cases, or_right}
 use Rattle.lists.proofs.Rows.{all-below, count_from, count_last}
 use Rattle.lists.proofs.Parts.{length-ff}

@@ -9,7 +9,8 @@ use native.Mathlib.Decide.{ℕ_discrete}
 use lib.ListN.{length, get_or}
 use lib.Dec.{leb, ltb}
 use borrow.Author.Tests.{leb-true, ltb-false}
-use Rattle.lists.specs.Lists.{if◌then◌else◌, head, empty, times, all, below, keep}
+use Rattle.std.specs.Prelude.{if◌then◌else◌}
+use Rattle.lists.specs.Lists.{head, empty, times, all, below, keep}
 use Rattle.lists.proofs.Tests.{true_or_false, every_at, and_left, and_right}
 use Rattle.lists.proofs.Counts.{grown_some, times_self, times_append}
 use Rattle.model.specs.declared.Sizes.{Sizes}

@@ -7,7 +7,8 @@ use mathlib.Core.List.{List, [], ◌∷◌, ◌++◌, map}
 use native.Mathlib.Omega.{arith}
 use native.Mathlib.Decide.{ℕ_discrete}
 use lib.Dec.{eqb}
-use Rattle.lists.specs.Lists.{if◌then◌else◌, all, keep, times, distinct}
+use Rattle.std.specs.Prelude.{if◌then◌else◌}
+use Rattle.lists.specs.Lists.{all, keep, times, distinct}
 use Rattle.lists.proofs.Tests.{and_left, and_right, and-true}
 use Rattle.lists.proofs.Rows.{map_append}
 use Rattle.lists.proofs.Counts.{times_other, times_one, times_append, distinct-times, times-distinct}

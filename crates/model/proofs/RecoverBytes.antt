@@ -9,7 +9,8 @@ use native.Mathlib.Omega.{arith}
 use native.Mathlib.Decide.{ℕ_discrete, dec_lt}
 use lib.ListN.{length, get_or}
 use borrow.Author.Tests.{eqb-true, eq-eqb}
-use Rattle.lists.specs.Lists.{if◌then◌else◌, empty, head, times}
+use Rattle.std.specs.Prelude.{if◌then◌else◌}
+use Rattle.lists.specs.Lists.{empty, head, times}
 use Rattle.lists.proofs.Tests.{and_left, and_right, and-true}
 use Rattle.lists.proofs.Counts.{times_self, times_other, times_cons, mem_times}
 use Rattle.lists.proofs.Orders.{Rising, rising_sort, times_sort}

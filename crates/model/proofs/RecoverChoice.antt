@@ -7,7 +7,8 @@ use native.Mathlib.Omega.{arith}
 use native.Mathlib.Decide.{dec_lt}
 use lib.Dec.{ltb, eqb}
 use borrow.Author.Tests.{ltb-true, ltb-false, lt-ltb, le-ltb, eqb-true, eq-eqb, not-true}
-use Rattle.lists.specs.Lists.{if◌then◌else◌, below, all_below, head, empty, times}
+use Rattle.std.specs.Prelude.{if◌then◌else◌}
+use Rattle.lists.specs.Lists.{below, all_below, head, empty, times}
 use Rattle.lists.proofs.Tests.{and_left, and_right, and-true, or_right}
 use Rattle.lists.proofs.Rows.{all-below, below_all}
 use Rattle.lists.proofs.Counts.{member-times, times-member, times_cons, times_self}

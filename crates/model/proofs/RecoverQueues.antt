@@ -10,7 +10,8 @@ use native.Mathlib.Decide.{dec_lt}
 use lib.ListN.{length, length-map}
 use lib.Dec.{ltb, eqb}
 use borrow.Author.Tests.{lt-ltb, le-ltb, ltb-true, le-leb}
-use Rattle.lists.specs.Lists.{if◌then◌else◌, all, keep, member, times, distinct}
+use Rattle.std.specs.Prelude.{if◌then◌else◌}
+use Rattle.lists.specs.Lists.{all, keep, member, times, distinct}
 use Rattle.lists.proofs.Tests.{and_left, and-true}
 use Rattle.lists.proofs.Rows.{count_le}
 use Rattle.lists.proofs.Counts.{times_append, member-times, times_cons, times_self}

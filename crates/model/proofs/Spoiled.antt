@@ -9,7 +9,8 @@ use native.Mathlib.Nat.{div-add-mod', mod-lt, lt_of_mul-lt-mul_right}
 use native.Mathlib.Decide.{ℕ_discrete, dec_lt}
 use lib.ListN.{length, take, drop, length-take, length-append}
 use borrow.Author.Tests.{eqb-true}
-use Rattle.lists.specs.Lists.{if◌then◌else◌, part, ff}
+use Rattle.std.specs.Prelude.{if◌then◌else◌}
+use Rattle.lists.specs.Lists.{part, ff}
 use Rattle.lists.proofs.Tests.{true_or_false, same_truth, or_left, or_right}
 use Rattle.lists.proofs.Parts.{length_part, length-ff}
 use Rattle.model.specs.declared.Sizes.{Sizes}

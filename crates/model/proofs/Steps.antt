@@ -10,7 +10,8 @@ use native.Mathlib.Decide.{ℕ_discrete, dec_lt}
 use lib.ListN.{length, drop, length-append, length-map}
 use lib.Dec.{leb, ltb}
 use borrow.Author.Tests.{leb-true}
-use Rattle.lists.specs.Lists.{if◌then◌else◌, head, empty, times, ff}
+use Rattle.std.specs.Prelude.{if◌then◌else◌}
+use Rattle.lists.specs.Lists.{head, empty, times, ff}
 use Rattle.lists.proofs.Tests.{true_or_false}
 use Rattle.lists.proofs.Counts.{empty-length, grown_some, times_self, times_other, times_append, times-rest, head-rest, length_once}
 use Rattle.model.specs.declared.Sizes.{Sizes}

@@ -9,7 +9,8 @@ use native.Mathlib.Nat.{le_of_eq}
 use lib.ListN.{length, get_or, length-append}
 use lib.Dec.{leb, ltb, eqb}
 use borrow.Author.Tests.{ltb-true, eqb-true, leb-true}
-use Rattle.lists.specs.Lists.{head, empty, if◌then◌else◌}
+use Rattle.std.specs.Prelude.{if◌then◌else◌}
+use Rattle.lists.specs.Lists.{head, empty}
 use Rattle.lists.proofs.Tests.{true_or_false}
 use Rattle.lists.proofs.Rows.{length-row}
 use Rattle.model.specs.declared.Sizes.{Sizes}

@@ -1,7 +1,7 @@
 -- Allocate always finds a bucket: one claim about every allocation that a write or a read makes, whatever state, chip and disk it is given.
 -- No other call allocates.
-use Rattle.std.specs.Prelude.{ℕ, ◌+◌, ◌≡◌, Bool, true, not, List, [], ◌∷◌, ◌++◌, length, ltb}
-use Rattle.lists.specs.Lists.{if◌then◌else◌, empty, all}
+use Rattle.std.specs.Prelude.{ℕ, ◌+◌, ◌≡◌, Bool, true, not, List, [], ◌∷◌, ◌++◌, length, ltb, if◌then◌else◌}
+use Rattle.lists.specs.Lists.{empty, all}
 use Rattle.model.specs.declared.Victim.{Victim}
 use Rattle.model.specs.declared.Victim.TheVariants.{Nobody, Bucket}
 use Rattle.model.specs.Sizes.{Device, pages_for}

@@ -1,6 +1,6 @@
 -- Calls: what each is turned down for, and what each gives under an allowance of stores.
-use Rattle.std.specs.Prelude.{ℕ, ◌+◌, ◌*◌, Bool, true, false, ◌&&◌, List, [], ◌∷◌, ◌++◌, length, take, leb, ltb, eqb}
-use Rattle.lists.specs.Lists.{if◌then◌else◌, empty, part}
+use Rattle.std.specs.Prelude.{ℕ, ◌+◌, ◌*◌, Bool, true, false, ◌&&◌, List, [], ◌∷◌, ◌++◌, length, take, leb, ltb, eqb, if◌then◌else◌}
+use Rattle.lists.specs.Lists.{empty, part}
 use Rattle.model.specs.declared.Sizes.{Sizes}
 use Rattle.model.specs.declared.Answer.{Answer}
 use Rattle.model.specs.declared.Answer.TheVariants.{Done, Idle, Cut, Refused}

@@ -1,6 +1,6 @@
 -- Images made by the page rules, what a bucket is, and its complete logs.
-use Rattle.std.specs.Prelude.{ℕ, zero, suc, ◌+◌, ◌-◌, ◌*◌, Bool, true, false, not, ◌&&◌, ◌||◌, List, [], ◌∷◌, map, leb, ltb, eqb}
-use Rattle.lists.specs.Lists.{if◌then◌else◌, every, within, below, all_below, count_below, keep, distinct, splice, part}
+use Rattle.std.specs.Prelude.{ℕ, zero, suc, ◌+◌, ◌-◌, ◌*◌, Bool, true, false, not, ◌&&◌, ◌||◌, List, [], ◌∷◌, map, leb, ltb, eqb, if◌then◌else◌}
+use Rattle.lists.specs.Lists.{every, within, below, all_below, count_below, keep, distinct, splice, part}
 use Rattle.model.specs.declared.Sizes.{Sizes}
 use Rattle.model.specs.Sizes.{Device, bucket_size, body, pages_for}
 use Rattle.model.specs.Stores.{tag_of, bucket_bytes}

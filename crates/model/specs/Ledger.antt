@@ -1,6 +1,6 @@
 -- The erase ledger: its entries, the buckets that they name, and number 4.
-use Rattle.std.specs.Prelude.{ℕ, zero, suc, ◌+◌, ◌*◌, Bool, not, ◌&&◌, ◌||◌, List, [], ◌∷◌, map, ltb, eqb}
-use Rattle.lists.specs.Lists.{if◌then◌else◌, every, below, all_below, any_below, keep, distinct, same, ff}
+use Rattle.std.specs.Prelude.{ℕ, zero, suc, ◌+◌, ◌*◌, Bool, not, ◌&&◌, ◌||◌, List, [], ◌∷◌, map, ltb, eqb, if◌then◌else◌}
+use Rattle.lists.specs.Lists.{every, below, all_below, any_below, keep, distinct, same, ff}
 use Rattle.model.specs.declared.Sizes.{Sizes}
 use Rattle.model.specs.Sizes.{Device, body}
 use Rattle.model.specs.Stores.{tag_of}

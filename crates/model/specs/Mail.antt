@@ -1,6 +1,6 @@
 -- Chip images by mail: the text of an image, one frame of hexadecimal a line, and the image that a text says.
-use Rattle.std.specs.Prelude.{ℕ, ◌+◌, ◌*◌, ◌/◌, ◌%◌, ◌≡◌, Bool, true, not, ◌&&◌, List, [], ◌∷◌, ◌++◌, map, length, drop, get_or, leb, ltb, eqb}
-use Rattle.lists.specs.Lists.{if◌then◌else◌, every, all, keep, below, concat_map, member, part, ff}
+use Rattle.std.specs.Prelude.{ℕ, ◌+◌, ◌*◌, ◌/◌, ◌%◌, ◌≡◌, Bool, true, not, ◌&&◌, List, [], ◌∷◌, ◌++◌, map, length, drop, get_or, leb, ltb, eqb, if◌then◌else◌}
+use Rattle.lists.specs.Lists.{every, all, keep, below, concat_map, member, part, ff}
 use Rattle.model.specs.declared.Sizes.{Sizes}
 use Rattle.model.specs.declared.Answer.{Answer}
 use Rattle.model.specs.declared.Answer.TheVariants.{Done, Refused}

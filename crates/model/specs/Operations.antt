@@ -1,6 +1,6 @@
 -- Write, read, drain and format: each a step, or a plan from nothing.
-use Rattle.std.specs.Prelude.{ℕ, ◌+◌, ◌-◌, ◌/◌, Bool, true, false, not, ◌&&◌, ◌||◌, List, [], ◌∷◌, ◌++◌, map, length, drop, get_or, leb, ltb, eqb}
-use Rattle.lists.specs.Lists.{if◌then◌else◌, below, head, keep, concat_map, sort_by}
+use Rattle.std.specs.Prelude.{ℕ, ◌+◌, ◌-◌, ◌/◌, Bool, true, false, not, ◌&&◌, ◌||◌, List, [], ◌∷◌, ◌++◌, map, length, drop, get_or, leb, ltb, eqb, if◌then◌else◌}
+use Rattle.lists.specs.Lists.{below, head, keep, concat_map, sort_by}
 use Rattle.model.specs.declared.Sizes.{Sizes}
 use Rattle.model.specs.declared.Entry.{Entry}
 use Rattle.model.specs.declared.Victim.{Victim}

@@ -1,6 +1,6 @@
 -- Recover: which copies and Write buckets of an image are kept, what is written to the disk, and the state.
-use Rattle.std.specs.Prelude.{ℕ, ◌+◌, Bool, not, ◌&&◌, ◌||◌, List, [], ◌∷◌, ◌++◌, map, length, ltb, eqb}
-use Rattle.lists.specs.Lists.{if◌then◌else◌, below, all_below, head, empty, any, keep, member, concat_map, sort_by}
+use Rattle.std.specs.Prelude.{ℕ, ◌+◌, Bool, not, ◌&&◌, ◌||◌, List, [], ◌∷◌, ◌++◌, map, length, ltb, eqb, if◌then◌else◌}
+use Rattle.lists.specs.Lists.{below, all_below, head, empty, any, keep, member, concat_map, sort_by}
 use Rattle.model.specs.declared.Sizes.{Sizes}
 use Rattle.model.specs.declared.Entry.{Entry}
 use Rattle.model.specs.Sizes.{Device, body}

@@ -1,6 +1,6 @@
 -- The engine's state, its queues, and number 5.
-use Rattle.std.specs.Prelude.{ℕ, ◌*◌, max, Bool, true, false, not, ◌&&◌, ◌||◌, List, [], ◌∷◌, ◌++◌, map, length, leb, ltb, eqb}
-use Rattle.lists.specs.Lists.{if◌then◌else◌, every, times, all_below, max_below, all, keep, distinct}
+use Rattle.std.specs.Prelude.{ℕ, ◌*◌, max, Bool, true, false, not, ◌&&◌, ◌||◌, List, [], ◌∷◌, ◌++◌, map, length, leb, ltb, eqb, if◌then◌else◌}
+use Rattle.lists.specs.Lists.{every, times, all_below, max_below, all, keep, distinct}
 use Rattle.model.specs.declared.Sizes.{Sizes}
 use Rattle.model.specs.declared.Entry.{Entry}
 use Rattle.model.specs.Sizes.{Device, body}

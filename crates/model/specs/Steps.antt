@@ -1,7 +1,7 @@
 -- Plans, and the steps that operations share: merged bytes, Erase step, Allocate, a whole copy, Evict.
 -- A step sees the chip and the disk as the steps before it leave them.
-use Rattle.std.specs.Prelude.{ℕ, ◌+◌, ◌-◌, List, [], ◌∷◌, ◌++◌, length, drop, leb}
-use Rattle.lists.specs.Lists.{if◌then◌else◌, row, head, empty, ff}
+use Rattle.std.specs.Prelude.{ℕ, ◌+◌, ◌-◌, List, [], ◌∷◌, ◌++◌, length, drop, leb, if◌then◌else◌}
+use Rattle.lists.specs.Lists.{row, head, empty, ff}
 use Rattle.model.specs.declared.Sizes.{Sizes}
 use Rattle.model.specs.Sizes.{Device, pages_for}
 use Rattle.model.specs.Stores.{Store, program, erase, apply_all, bucket_bytes, disk_bytes, page_bytes, unit_stores}

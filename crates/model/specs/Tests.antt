@@ -1,6 +1,5 @@
 -- Tests in the order of the table, and the number of the first that fails.
-use Rattle.std.specs.Prelude.{ℕ, Bool, List, [], ◌∷◌}
-use Rattle.lists.specs.Lists.{if◌then◌else◌}
+use Rattle.std.specs.Prelude.{ℕ, Bool, List, [], ◌∷◌, if◌then◌else◌}
 
 -- a number of the table, and what must hold
 abbrev pub Test : Type 0

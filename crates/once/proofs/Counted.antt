@@ -10,7 +10,8 @@ use lib.Dec.{ltb}
 use lib.ListN.{length, get_or, set, replicate, length-set, get_or-replicate}
 use lib.Seq.{get_or-set_same, get_or-set_other}
 use borrow.Author.Tests.{eqb-true, eq-eqb, ltb-true}
-use Rattle.lists.specs.Lists.{if◌then◌else◌, every, times, all, all_below, keep}
+use Rattle.std.specs.Prelude.{if◌then◌else◌}
+use Rattle.lists.specs.Lists.{every, times, all, all_below, keep}
 use Rattle.lists.proofs.Arrays.{keep-length}
 use Rattle.lists.proofs.Counts.{times_self, times_other, times_one, times_cons, times_append, length_once}
 use Rattle.lists.proofs.Orders.{times-keep}

@@ -6,7 +6,8 @@ use mathlib.Core.List.{List, []}
 use lib.ListN.{length}
 use lib.Dec.{ltb, eqb}
 use borrow.Author.Tests.{ne_eqb}
-use Rattle.lists.specs.Lists.{if◌then◌else◌, empty}
+use Rattle.std.specs.Prelude.{if◌then◌else◌}
+use Rattle.lists.specs.Lists.{empty}
 use Rattle.model.specs.declared.Answer.TheVariants.{Done, Idle}
 use Rattle.model.specs.Sizes.{Device}
 use Rattle.model.specs.State.{State}

@@ -1,6 +1,5 @@
 -- The structs that an entry hands back, by the outcome that the definitions give the call.
-use Rattle.std.specs.Prelude.{ℕ, ◌-◌, List}
-use Rattle.lists.specs.Lists.{if◌then◌else◌}
+use Rattle.std.specs.Prelude.{ℕ, ◌-◌, List, if◌then◌else◌}
 use Rattle.model.specs.declared.Answer.{Answer}
 use Rattle.model.specs.declared.Answer.TheVariants.{Done, Idle, Cut, Refused}
 use Rattle.model.specs.Sizes.{Device}

@@ -11,7 +11,8 @@ use lib.ListN.{length, take, get_or, replicate, length-replicate}
 use lib.Seq.{take_all}
 use lib.Dec.{leb, ltb, eqb}
 use borrow.Author.Tests.{eq-eqb, eqb-true, leb-true, le-leb, ltb-true, ltb-false, lt-ltb, le-ltb}
-use Rattle.lists.specs.Lists.{if◌then◌else◌, all, any, member, splice}
+use Rattle.std.specs.Prelude.{if◌then◌else◌}
+use Rattle.lists.specs.Lists.{all, any, member, splice}
 use Rattle.lists.proofs.Tests.{true_or_false, and_left, and_right, and-true, or_second}
 use Rattle.lists.proofs.Parts.{get_d_part, length-part-fits, get_d_splice_in, get_d_splice_before, get_d_splice_after}
 use Rattle.lists.proofs.Arrays.{done_more, all_at}

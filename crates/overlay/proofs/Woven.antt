@@ -8,7 +8,8 @@ use native.Mathlib.Nat.{mul-le-mul}
 use native.Mathlib.Omega.{arith}
 use lib.ListN.{length, get_or, drop_of_length-le}
 use borrow.Author.Tests.{eqb-true, eq-eqb, ne_eqb}
-use Rattle.lists.specs.Lists.{if◌then◌else◌, all, empty, member, splice, part}
+use Rattle.std.specs.Prelude.{if◌then◌else◌}
+use Rattle.lists.specs.Lists.{all, empty, member, splice, part}
 use Rattle.lists.proofs.Tests.{true_or_false, if_true, if_false}
 use Rattle.lists.proofs.Arrays.{empty-length}
 use Rattle.lists.proofs.Parts.{Apart, part_from, part_other, length-splice, length-part-fits}

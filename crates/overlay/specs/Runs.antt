@@ -1,6 +1,6 @@
 -- Where the bytes of a whole lie: what a page's log covers, runs, and what is made of a run.
-use Rattle.std.specs.Prelude.{ℕ, ◌+◌, ◌-◌, ◌*◌, ◌≤◌, ◌<◌, ◌≡◌, true, false, ◌⊎◌, ◌≢◌, List, length, get_or}
-use Rattle.lists.specs.Lists.{if◌then◌else◌, member, empty, splice, part}
+use Rattle.std.specs.Prelude.{ℕ, ◌+◌, ◌-◌, ◌*◌, ◌≤◌, ◌<◌, ◌≡◌, true, false, ◌⊎◌, ◌≢◌, List, length, get_or, if◌then◌else◌}
+use Rattle.lists.specs.Lists.{member, empty, splice, part}
 use Rattle.lists.proofs.Parts.{Apart}
 use Rattle.model.specs.declared.Sizes.{Sizes}
 use Rattle.model.specs.Sizes.{bucket_size}

@@ -2,8 +2,8 @@
 // under the logs. The whole is all bytes of a back-end bucket; a run is a part of it that one log covers last, or none.
 #![tactic(auto)]
 
-ghost use Rattle.std.specs.Prelude.{◌≡◌, true, ◌&&◌, ◌⊎◌, List, [], ◌∷◌, ℕ, ◌+◌, ◌-◌, ◌*◌, ◌≤◌, ◌<◌, max, length, take, get_or, leb, ltb, eqb};
-ghost use Rattle.lists.specs.Lists.{if◌then◌else◌, all, splice, part};
+ghost use Rattle.std.specs.Prelude.{◌≡◌, true, ◌&&◌, ◌⊎◌, List, [], ◌∷◌, ℕ, ◌+◌, ◌-◌, ◌*◌, ◌≤◌, ◌<◌, max, length, take, get_or, leb, ltb, eqb, if◌then◌else◌};
+ghost use Rattle.lists.specs.Lists.{all, splice, part};
 ghost use Rattle.model.specs.Sizes.{bucket_size, body};
 ghost use Rattle.model.specs.Image.{blanks};
 ghost use Rattle.model.specs.State.{is_below};

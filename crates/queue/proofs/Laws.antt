@@ -8,7 +8,8 @@ use native.Mathlib.Omega.{arith}
 use lib.ListN.{length, take, drop, get_or}
 use lib.Dec.{ltb, eqb, leb-suc-suc}
 use borrow.Author.Tests.{eqb-true, eqb-false, eq-eqb, ne_eqb, lt-ltb}
-use Rattle.lists.specs.Lists.{if◌then◌else◌, any, member, distinct}
+use Rattle.std.specs.Prelude.{if◌then◌else◌}
+use Rattle.lists.specs.Lists.{any, member, distinct}
 use Rattle.lists.proofs.Arrays.{rest_more}
 use Rattle.model.specs.declared.Entry.{Entry}
 use Rattle.model.specs.State.{entry, is_of, holds, record_of, back_bucket, backs}

@@ -5,7 +5,8 @@ use mathlib.Core.Bool.{Bool, true, false, not, true≢false}
 use mathlib.Core.List.{List, [], ◌∷◌}
 use native.Mathlib.Omega.{arith}
 use lib.ListN.{length}
-use Rattle.lists.specs.Lists.{if◌then◌else◌, keep}
+use Rattle.std.specs.Prelude.{if◌then◌else◌}
+use Rattle.lists.specs.Lists.{keep}
 use Rattle.lists.proofs.Arrays.{keep-length}
 use Rattle.model.specs.declared.Entry.{Entry}
 use Rattle.model.specs.State.{is_of, holds, cache_of, caches_of, is_other, without}

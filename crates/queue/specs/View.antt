@@ -1,6 +1,5 @@
 -- A queue is seen as the list of its first `len` entries.
-use Rattle.std.specs.Prelude.{ℕ, ◌+◌, false, List, [], ◌∷◌, length, take}
-use Rattle.lists.specs.Lists.{if◌then◌else◌}
+use Rattle.std.specs.Prelude.{ℕ, ◌+◌, false, List, [], ◌∷◌, length, take, if◌then◌else◌}
 use Rattle.lists.specs.Arrays.{padded}
 use Rattle.model.specs.declared.Entry.{Entry}
 use Rattle.model.specs.State.{is_of}

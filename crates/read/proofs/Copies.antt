@@ -12,7 +12,7 @@ use Rattle.model.specs.State.{State, holds, caches_of}
 use Rattle.model.specs.Image.{body_fits}
 use Rattle.model.specs.Steps.{Step, ◌then◌, move, nothing, merged, copy}
 use Rattle.model.specs.Operations.{drop_oldest, set_mark, make_place, read_copy}
-use Rattle.lists.specs.Lists.{if◌then◌else◌}
+use Rattle.std.specs.Prelude.{if◌then◌else◌}
 use Rattle.lists.proofs.Tests.{true_or_false}
 use Rattle.model.proofs.Frames.{Lengths}
 use Rattle.image.specs.Chip.{spare_only}

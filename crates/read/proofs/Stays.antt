@@ -8,7 +8,8 @@ use native.Mathlib.Omega.{arith}
 use lib.ListN.{length, drop, get_or}
 use lib.Dec.{ltb}
 use borrow.Author.Tests.{ltb-false, eq-eqb}
-use Rattle.lists.specs.Lists.{if◌then◌else◌, times}
+use Rattle.std.specs.Prelude.{if◌then◌else◌}
+use Rattle.lists.specs.Lists.{times}
 use Rattle.lists.proofs.Tests.{true_or_false}
 use Rattle.lists.proofs.Counts.{times_cons, times_append}
 use Rattle.model.specs.declared.Sizes.{Sizes}

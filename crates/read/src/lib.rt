@@ -1,8 +1,8 @@
 // Read.
 #![tactic(auto)]
 
-ghost use Rattle.std.specs.Prelude.{◌≡◌, false, ◌||◌, ◌+◌, ◌*◌, ◌≤◌, length};
-ghost use Rattle.lists.specs.Lists.{if◌then◌else◌, part};
+ghost use Rattle.std.specs.Prelude.{◌≡◌, false, ◌||◌, ◌+◌, ◌*◌, ◌≤◌, length, if◌then◌else◌};
+ghost use Rattle.lists.specs.Lists.{part};
 ghost use Rattle.model.specs.Sizes.{bucket_size};
 ghost use Rattle.model.specs.Spare.{read_kind, dirty_kind};
 ghost use Rattle.model.specs.Stores.{bucket_bytes};

@@ -9,7 +9,8 @@ use lib.ListN.{length, get_or, set, replicate, length-replicate, length-set, get
 use lib.Seq.{get_or-set_same, get_or-set_other}
 use lib.Dec.{eqb}
 use borrow.Author.Tests.{eq-eqb, ne_eqb}
-use Rattle.lists.specs.Lists.{if◌then◌else◌, member, any}
+use Rattle.std.specs.Prelude.{if◌then◌else◌}
+use Rattle.lists.specs.Lists.{member, any}
 use Rattle.model.specs.declared.Sizes.{Sizes}
 use Rattle.model.specs.Tests.{first_failed}
 use Rattle.model.specs.Mail.{line_reads, place_of, line_tests}

@@ -1,6 +1,6 @@
 -- The first faulty line of a text, by marks for the pages given before it.
-use Rattle.std.specs.Prelude.{ℕ, zero, suc, ◌<◌, ◌≡◌, List, [], ◌∷◌, length, get_or, eqb}
-use Rattle.lists.specs.Lists.{if◌then◌else◌, member}
+use Rattle.std.specs.Prelude.{ℕ, zero, suc, ◌<◌, ◌≡◌, List, [], ◌∷◌, length, get_or, eqb, if◌then◌else◌}
+use Rattle.lists.specs.Lists.{member}
 use Rattle.model.specs.declared.Sizes.{Sizes}
 use Rattle.model.specs.declared.Answer.{Answer}
 use Rattle.model.specs.Tests.{first_failed}

@@ -9,7 +9,8 @@ use lib.ListN.{length, take, drop, get_or, length-append, length-map}
 use lib.Seq.{take_at}
 use lib.Dec.{eqb}
 use borrow.Author.Tests.{lt-ltb, eq-eqb, ne_eqb}
-use Rattle.lists.specs.Lists.{if◌then◌else◌, all, keep, member, times, below}
+use Rattle.std.specs.Prelude.{if◌then◌else◌}
+use Rattle.lists.specs.Lists.{all, keep, member, times, below}
 use Rattle.lists.proofs.Tests.{and_left}
 use Rattle.lists.proofs.Counts.{in_all, length_once, times_self, times_cons}
 use Rattle.lists.proofs.Orders.{kept_below}

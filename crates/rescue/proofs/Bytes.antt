@@ -5,7 +5,8 @@ use mathlib.Core.Bool.{Bool, true, false}
 use mathlib.Core.List.{List, [], Memᴰ}
 use native.Mathlib.Omega.{arith}
 use lib.ListN.{length}
-use Rattle.lists.specs.Lists.{if◌then◌else◌, head, empty, member, part}
+use Rattle.std.specs.Prelude.{if◌then◌else◌}
+use Rattle.lists.specs.Lists.{head, empty, member, part}
 use Rattle.lists.proofs.Tests.{or_right}
 use Rattle.lists.proofs.Counts.{mem_times, head_in}
 use Rattle.lists.proofs.Orders.{times_sort}

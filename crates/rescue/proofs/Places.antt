@@ -10,7 +10,8 @@ use lib.Dec.{eqb}
 use lib.ListN.{length, drop, get_or, drop_of_length-le}
 use lib.Seq.{drop-cons}
 use borrow.Author.Tests.{eq-eqb}
-use Rattle.lists.specs.Lists.{if◌then◌else◌, all, any, head, member, part}
+use Rattle.std.specs.Prelude.{if◌then◌else◌}
+use Rattle.lists.specs.Lists.{all, any, head, member, part}
 use Rattle.lists.proofs.Tests.{and_left, and_right, and-true}
 use Rattle.lists.proofs.Members.{member-step, member_end}
 use Rattle.lists.proofs.Parts.{get_d_part, length-part-fits}

@@ -8,7 +8,8 @@ use native.Mathlib.Omega.{arith}
 use lib.Dec.{eqb}
 use lib.ListN.{length, get_or, length-map}
 use borrow.Author.Tests.{lt-ltb, eq-eqb, eqb-true}
-use Rattle.lists.specs.Lists.{if◌then◌else◌, all, keep, below, head, empty, member, times}
+use Rattle.std.specs.Prelude.{if◌then◌else◌}
+use Rattle.lists.specs.Lists.{all, keep, below, head, empty, member, times}
 use Rattle.lists.proofs.Tests.{and_left, and_right, and-true, or_left, or_second, or_cases, same_truth}
 use Rattle.lists.proofs.Rows.{length-row}
 use Rattle.lists.proofs.Counts.{in_all, head_in, empty-times}

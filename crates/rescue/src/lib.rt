@@ -2,8 +2,8 @@
 // The bytes are laid where they belong, in the disk's part for the units that the allowance lets be made: there is no work area.
 #![tactic(auto)]
 
-ghost use Rattle.std.specs.Prelude.{◌≡◌, true, List, [], ℕ, ◌*◌, ◌≤◌, ◌<◌, length, take, get_or};
-ghost use Rattle.lists.specs.Lists.{if◌then◌else◌, all, head, member, part};
+ghost use Rattle.std.specs.Prelude.{◌≡◌, true, List, [], ℕ, ◌*◌, ◌≤◌, ◌<◌, length, take, get_or, if◌then◌else◌};
+ghost use Rattle.lists.specs.Lists.{all, head, member, part};
 ghost use Rattle.model.specs.Sizes.{bucket_size, disk_size, body};
 ghost use Rattle.model.specs.Stores.{disk_bytes};
 ghost use Rattle.model.specs.Image.{is_dirty};

@@ -8,7 +8,7 @@ use borrow.Author.Tests.{ne_eqb, eqb-true, lt-leb, leb-true, leb-false}
 use lib.ListN.{length, take, drop, length-take, length-drop}
 use lib.Seq.{take_all, take-take, get_or-take}
 use lib.Dec.{leb, eqb}
-use Rattle.lists.specs.Lists.{if◌then◌else◌}
+use Rattle.std.specs.Prelude.{if◌then◌else◌}
 use Rattle.lists.proofs.Arrays.{drop-take}
 use Rattle.model.specs.declared.Sizes.{Sizes}
 use Rattle.model.specs.Tests.{first_failed}

@@ -8,7 +8,8 @@ use native.Mathlib.Decide.{ℕ_discrete}
 use borrow.Author.Tests.{eqb-true}
 use lib.ListN.{length}
 use lib.Dec.{eqb}
-use Rattle.lists.specs.Lists.{if◌then◌else◌, times}
+use Rattle.std.specs.Prelude.{if◌then◌else◌}
+use Rattle.lists.specs.Lists.{times}
 use Rattle.lists.proofs.Tests.{every_at}
 use Rattle.lists.proofs.Counts.{times_cons, times_other, times_one, member-times, length_few}
 use Rattle.model.specs.declared.Sizes.{Sizes}

@@ -8,7 +8,8 @@ use native.Mathlib.Nat.{mul-le-mul_right}
 use borrow.Author.Tests.{eqb-true}
 use lib.ListN.{length, take, length-append}
 use lib.Dec.{eqb}
-use Rattle.lists.specs.Lists.{if◌then◌else◌, empty}
+use Rattle.std.specs.Prelude.{if◌then◌else◌}
+use Rattle.lists.specs.Lists.{empty}
 use Rattle.model.specs.declared.Sizes.{Sizes}
 use Rattle.model.specs.Tests.{first_failed}
 use Rattle.model.specs.Driving.{lines_from}

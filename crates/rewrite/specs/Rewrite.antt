@@ -1,6 +1,6 @@
 -- The rewriting program: the bytes of its input to the bytes of its output.
-use Rattle.std.specs.Prelude.{ℕ, ◌+◌, ◌≡◌, Bool, ◌&&◌, ◌||◌, List, [], ◌∷◌, ◌++◌, length, take, drop, get_or, leb, eqb}
-use Rattle.lists.specs.Lists.{if◌then◌else◌, all}
+use Rattle.std.specs.Prelude.{ℕ, ◌+◌, ◌≡◌, Bool, ◌&&◌, ◌||◌, List, [], ◌∷◌, ◌++◌, length, take, drop, get_or, leb, eqb, if◌then◌else◌}
+use Rattle.lists.specs.Lists.{all}
 use Rattle.model.specs.declared.Sizes.{Sizes}
 use Rattle.model.specs.Tests.{Test, first_failed}
 use Rattle.model.specs.Sizes.{Device, limits, flash_size}

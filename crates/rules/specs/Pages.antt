@@ -1,6 +1,6 @@
 -- The pages of a bucket, and the buckets of a chip, as the test goes through them.
-use Rattle.std.specs.Prelude.{ℕ, zero, suc, ◌+◌, ◌*◌, ◌≤◌, ◌<◌, ◌≡◌, Bool, true, not, ◌&&◌, ◌||◌, List, [], ◌∷◌, get_or, leb, ltb, eqb}
-use Rattle.lists.specs.Lists.{if◌then◌else◌, every, within, all_below, part, same}
+use Rattle.std.specs.Prelude.{ℕ, zero, suc, ◌+◌, ◌*◌, ◌≤◌, ◌<◌, ◌≡◌, Bool, true, not, ◌&&◌, ◌||◌, List, [], ◌∷◌, get_or, leb, ltb, eqb, if◌then◌else◌}
+use Rattle.lists.specs.Lists.{every, within, all_below, part, same}
 use Rattle.model.specs.declared.Sizes.{Sizes}
 use Rattle.model.specs.Sizes.{Device, bucket_size, body, pages_for}
 use Rattle.model.specs.Spare.{blank, write_kind, kind, ordinal, pages, offset, extent}

@@ -5,7 +5,7 @@ use mathlib.Core.List.{List}
 use Prim.Native.Nat.{ℕ, ◌+◌}
 use lib.ListN.{get_or}
 use lib.Dec.{eqb}
-use Rattle.lists.specs.Lists.{if◌then◌else◌}
+use Rattle.std.specs.Prelude.{if◌then◌else◌}
 use Rattle.model.specs.Spare.{blank, spoiled, programmed, kind, ordinal, pages}
 use Rattle.model.proofs.Tags.{blank-true}
 use Rattle.spare.specs.Fields.{fields, seen}

@@ -1,6 +1,6 @@
 -- The code's fields and the book's spare bytes.
-use Rattle.std.specs.Prelude.{ℕ, ◌+◌, ◌*◌, Bool, List}
-use Rattle.lists.specs.Lists.{if◌then◌else◌, part}
+use Rattle.std.specs.Prelude.{ℕ, ◌+◌, ◌*◌, Bool, List, if◌then◌else◌}
+use Rattle.lists.specs.Lists.{part}
 use Rattle.model.specs.Spare.{two, blank, spoiled, kind, ordinal, pages, epoch, back, offset, tag_bytes}
 use Rattle.spare.specs.declared.Fields.{Fields}
 use Rattle.spare.specs.declared.Seen.{Seen}

@@ -1,8 +1,7 @@
 // The engine's state by value, and its moves.
 #![tactic(auto)]
 
-ghost use Rattle.std.specs.Prelude.{◌≡◌, true, [], ◌++◌, map, ◌+◌, ◌≤◌, length, leb};
-ghost use Rattle.lists.specs.Lists.{if◌then◌else◌};
+ghost use Rattle.std.specs.Prelude.{◌≡◌, true, [], ◌++◌, map, ◌+◌, ◌≤◌, length, leb, if◌then◌else◌};
 ghost use Rattle.lists.specs.Arrays.{joined};
 ghost use Rattle.model.specs.Sizes.{Device};
 ghost use Rattle.model.specs.State.{unformatted, moved, entry, caches_of, without};

@@ -5,7 +5,8 @@ use mathlib.Core.Bool.{Bool, true, false, not}
 use mathlib.Core.List.{List, [], ◌∷◌, ◌++◌}
 use lib.ListN.{drop}
 use borrow.Author.Tests.{ltb-true, lt-ltb}
-use Rattle.lists.specs.Lists.{if◌then◌else◌, all, keep}
+use Rattle.std.specs.Prelude.{if◌then◌else◌}
+use Rattle.lists.specs.Lists.{all, keep}
 use Rattle.lists.proofs.Tests.{and_left, and_right, and-true}
 use Rattle.lists.proofs.Arrays.{all_append}
 use Rattle.lists.proofs.Rows.{map_append}

@@ -1,8 +1,7 @@
 // The driving program: lines from standard input, and what is printed of each to standard output.
 #![tactic(auto)]
 
-ghost use Rattle.std.specs.Prelude.{◌≡◌, true, false, ◌<◌, ◌≤◌, length, take, replicate};
-ghost use Rattle.lists.specs.Lists.{if◌then◌else◌};
+ghost use Rattle.std.specs.Prelude.{◌≡◌, true, false, ◌<◌, ◌≤◌, length, take, replicate, if◌then◌else◌};
 ghost use Rattle.model.specs.Driving.{output};
 ghost use Rattle.calls.specs.Arrays.{most_read};
 ghost use Rattle.drive.specs.Recorder.{longest_text};
