@@ -20,11 +20,11 @@ use Rattle.model.specs.declared.Victim.TheVariants.{Nobody, Bucket}
 use Rattle.model.specs.Sizes.{Device, pages_for}
 use Rattle.model.specs.Stores.{apply_all}
 use Rattle.model.specs.Spare.{dirty_kind}
-use Rattle.model.specs.State.{State, moved, entry, with_priority, is_of, holds, cache_of, caches_of, is_marked, without, state_fits}
-use Rattle.model.specs.Steps.{Step, nothing, ◌then◌, move, make_room, taken, drop_write, merged, copy, write_out, evict}
+use Rattle.model.specs.State.{State, moved, entry, with_priority, is_of, holds, cache_of, is_marked, without, state_fits}
+use Rattle.model.specs.Steps.{nothing, ◌then◌, move, make_room, taken, drop_write, merged, write_out, evict}
 use Rattle.model.specs.Operations.{halved, prioritised, recorded, counted, accept, take_write, fits, outgoing, evict_any, make_way, append_log, start_log, write}
-use Rattle.model.specs.Calls.{write_call, plan_of}
-use Rattle.model.specs.Preview.{victim_of, mapping, less, arrival, Leaves, OneLeaves}
+use Rattle.model.specs.Calls.{plan_of}
+use Rattle.model.specs.Preview.{victim_of, mapping, less, arrival, OneLeaves}
 use Rattle.model.proofs.Queues.{caches_of_one, length-distinct}
 use Rattle.model.proofs.Calling.{Passed}
 use Rattle.model.proofs.Tested.{bounds}

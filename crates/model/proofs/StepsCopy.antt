@@ -32,7 +32,7 @@ use Rattle.model.proofs.QueuesShown.{Reads, Writes, reads_kept, writes_kept, rea
 use Rattle.model.proofs.QueuesErased.{gone, gone_lengths, gone_same}
 use Rattle.model.proofs.LedgerKept.{Ledger}
 use Rattle.model.proofs.FindableRuns.{ledger_later}
-use Rattle.model.proofs.Inside.{Inside, lens, in_chip, one_place, gc_below}
+use Rattle.model.proofs.Inside.{Inside, in_chip, one_place, gc_below}
 use Rattle.model.proofs.StepsJoin.{erased_view, safe_erased, joined}
 use Rattle.model.proofs.Marks.{marks_kept}
 

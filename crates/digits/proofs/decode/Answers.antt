@@ -1,7 +1,6 @@
 -- `digits::decode` meets its contract.
 use mathlib.Core.List.{append-nil}
 use mathlib.Core.Path.{◌≡◌, refl, ◌∙◌}
-use Prim.Native.Nat.{◌-◌}
 use native.Mathlib.Omega.{arith}
 use lib.Seq.{get_or-drop}
 use lib.ListN.{length, drop, length-set, length-drop, drop_of_length-le}

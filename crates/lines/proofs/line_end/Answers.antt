@@ -1,6 +1,5 @@
 -- `lines::line_end` meets its contract.
 use native.Mathlib.Omega.{arith}
-use Prim.Native.Nat.{◌-◌}
 use Rattle.lines.proofs.Pieces.{line_begun, line_more}
 use Rattle.lines.proofs.line_end.Goals as goal
 

@@ -6,7 +6,6 @@ use lib.ListN.{length-set}
 use native.Mathlib.Omega.{arith}
 use mathlib.Core.List.{[], ◌∷◌, ◌++◌}
 use mathlib.Core.Path.{◌≡◌, refl, sym, ap, ◌∙◌}
-use Prim.Native.Nat.{◌-◌}
 use Rattle.fifo.proofs.Fifo.rising.Goals as goal
 
 pub loop-bucket-init : goal.loop-bucket-init
