@@ -6,13 +6,13 @@ use Rattle.text.proofs.Shown.{shown-length, put_shown}
 use Rattle.text.proofs.show.Goals as goal
 
 pub shape_of-out : goal.shape_of-out
-shape_of-out c = let start = c in
-    let e : length c.put_bytes-2.new.0 ≡ length start.args.out.now = omega arith in
+shape_of-out c =
+    let e : length c.put_bytes-2.new.out ≡ length c.args.out.now = omega arith in
     simp length-set e
 
 pub returns : goal.returns
-returns c = let start = c in
+returns c =
     let a = c.args in (
       sym (shown-length a.answer a.stores a.bytes.now),
-      rw (c.put_bytes-2.ensures, c.put_bytes.ensures) (put_shown a.answer a.stores a.bytes.now a.out.now start.requires.bytes_in_bounds),
+      rw (c.put_bytes-2.ensures, c.put_bytes.ensures) (put_shown a.answer a.stores a.bytes.now a.out.now c.requires.bytes_in_bounds),
     )
