@@ -12,7 +12,7 @@ use Rattle.lists.proofs.Tests.{same_truth, and_left, and_right, and-true, or-tru
 use Rattle.lists.proofs.Rows.{all-below, below_all}
 use Rattle.model.specs.declared.Sizes.{Sizes}
 use Rattle.model.specs.Sizes.{Device}
-use Rattle.model.specs.Spare.{two, blank, spoiled, programmed, write_kind, kind, ordinal, pages, epoch, back, offset, extent}
+use Rattle.model.specs.Spare.{two, blank, spoiled, programmed, write_kind, kind, epoch, back, extent}
 use Rattle.model.specs.Stores.{tag_of}
 use Rattle.model.specs.Image.{continues, shares, page_spoiled, begins_log, continues_log, is_packed, packed, page_fits, bucket_fits}
 use Rattle.model.proofs.Tags.{programmed_real, blank_unprogrammed, spoiled_real, spoiled_unprogrammed}

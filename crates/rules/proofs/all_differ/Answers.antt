@@ -2,7 +2,7 @@ use Rattle.rules.proofs.Slots.{alone_distinct, not_alone}
 use Rattle.rules.specs.Slots.{Alone}
 use mathlib.Core.List.{List}
 use mathlib.Core.Path.{◌≡◌, sym}
-use Prim.Native.Nat.{ℕ, ◌+◌, ◌-◌, ◌<◌}
+use Prim.Native.Nat.{ℕ, ◌+◌, ◌<◌}
 use native.Mathlib.Decide.{ℕ_discrete}
 use native.Mathlib.Omega.{arith}
 use Rattle.rules.proofs.all_differ.Goals as goal

@@ -4,7 +4,6 @@ use Rattle.image.specs.Chip.{spare_only}
 use Rattle.model.specs.Image.{bucket_fits}
 use Rattle.model.specs.Sizes.{body}
 use Rattle.lists.specs.Lists.{all_below}
-use mathlib.Core.Bool.{true}
 use mathlib.Core.Path.{◌≡◌, refl, sym, ap, ◌∙◌}
 use Prim.Native.Nat.{ℕ, ◌-◌}
 use native.Mathlib.Omega.{arith}

@@ -5,7 +5,7 @@ use lib.Seq.{take_all}
 use lib.ListN.{take, get_or}
 use mathlib.Core.List.{[], ◌∷◌}
 use mathlib.Core.Path.{refl, sym, ap, ◌∙◌}
-use Prim.Native.Nat.{ℕ, ◌-◌}
+use Prim.Native.Nat.{ℕ}
 use native.Mathlib.Omega.{arith}
 use Rattle.rules.proofs.count_of.Goals as goal
 

@@ -6,7 +6,7 @@ use Rattle.model.specs.Stores.{tag_of}
 use Rattle.model.specs.Spare.{kind}
 use Rattle.model.proofs.Limits.{on_chip}
 use mathlib.Core.Path.{◌≡◌, sym, ap, ◌∙◌}
-use Prim.Native.Nat.{ℕ, ◌+◌, ◌-◌, ◌<◌}
+use Prim.Native.Nat.{ℕ, ◌+◌, ◌<◌}
 use native.Mathlib.Decide.{ℕ_discrete}
 use native.Mathlib.Omega.{arith}
 use Rattle.rules.proofs.next_kind.Goals as goal

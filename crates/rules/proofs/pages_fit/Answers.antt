@@ -1,7 +1,6 @@
 use native.Mathlib.Omega.{arith}
-use Prim.Native.Nat.{ℕ, ◌-◌}
+use Prim.Native.Nat.{ℕ}
 use mathlib.Core.Path.{◌≡◌, refl, sym, ap, ◌∙◌}
-use mathlib.Core.Bool.{true}
 use Rattle.rules.proofs.Walk.{bucket_stands, bucket_fails}
 use Rattle.rules.specs.Pages.{stands}
 use Rattle.lists.proofs.Tests.{and-true}
