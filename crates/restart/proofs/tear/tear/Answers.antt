@@ -1,0 +1,6 @@
+use native.Mathlib.Nat.{mod-le}
+use Prim.Native.Nat.{◌-◌}
+use Rattle.restart.proofs.tear.tear.Goals as goal
+
+pub overflow_sub-first : goal.overflow_sub-first
+overflow_sub-first c = mod-le _ _
