@@ -1,4 +1,4 @@
-use Rattle.std.proofs.Common.{◌-◌, arith}
+use Rattle.std.proofs.Common.{arith}
 use Rattle.bench.proofs.merges.Goals as goal
 
 pub merge_by-requires : goal.merge_by-requires

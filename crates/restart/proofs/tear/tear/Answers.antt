@@ -1,5 +1,4 @@
 use native.Mathlib.Nat.{mod-le}
-use Prim.Native.Nat.{◌-◌}
 use Rattle.restart.proofs.tear.tear.Goals as goal
 
 pub overflow_sub-first : goal.overflow_sub-first
