@@ -1,4 +1,5 @@
-use Prim.Native.Nat.{◌+◌, ◌*◌, ◌≤◌}
+use Prim.Native.Nat.{ℕ, ◌+◌, ◌*◌, ◌≤◌, ◌<◌}
+use mathlib.Core.List.{List}
 use mathlib.Core.Path.{◌≡◌, refl, ◌∙◌}
 use mathlib.Core.Bool.{false}
 use mathlib.Core.Logic.{inl, inr}
@@ -10,6 +11,7 @@ use Rattle.lists.specs.Lists.{empty, part}
 use Rattle.lists.proofs.Lent.{lent_part, lent_length}
 use Rattle.lists.proofs.Parts.{length-part-fits}
 use Rattle.lists.proofs.Arrays.{empty-length}
+use Rattle.model.specs.declared.Sizes.{Sizes}
 use Rattle.model.specs.Sizes.{bucket_size, disk_size}
 use Rattle.model.specs.Stores.{bucket_bytes, disk_bytes}
 use Rattle.model.proofs.Limits.{on_chip}
@@ -21,10 +23,21 @@ use Rattle.copying.specs.Laid.{under_bytes}
 use Rattle.copying.proofs.Sourced.{readable}
 use Rattle.copying.proofs.lay_bytes.Goals as goal
 
+-- the bytes of b lie on the disk
+inside : (z : Sizes) (b : ℕ) (disk : List ℕ) → b < z.b → length disk ≡ disk_size z
+    → b * (z.p * z.s) + z.p * z.s ≤ length disk
+unfolding bucket_size disk_size
+inside z b disk back disk_length = omega (arith, nth_inside b z.b (z.p * z.s) back, disk_length)
+
 pub lay_within-requires : goal.lay_within-requires
 lay_within-requires c = let p = c.requires in
     let laid = p.laid in
-    record { readable = readable laid; list_value = laid.logs; target_lt_c = (laid.bucket, on_chip _ _ laid.read, p.n_bound); aside = record { unlisted = laid.logs_aside; lent = inr (refl, laid.read_aside c.if-base.true) } }
+    record {
+      readable = readable laid;
+      list_value = laid.logs;
+      target_lt_c = (laid.bucket, on_chip _ _ laid.read, p.n_bound);
+      aside = record { unlisted = laid.logs_aside; lent = inr (refl, laid.read_aside c.if-base.true) };
+    }
 
 pub returns-then-base : goal.returns-then-base
 unfolding under_bytes bucket_bytes empty
@@ -36,39 +49,41 @@ pub overflow_mul-from : goal.overflow_mul-from
 overflow_mul-from c = omega (arith, products c.requires.laid.limits)
 
 pub overflow_mul-from-2 : goal.overflow_mul-from-2
-unfolding bucket_size disk_size
-overflow_mul-from-2 c = let inside : c.args.b * (c.args.z.p * c.args.z.s) + c.args.z.p * c.args.z.s ≤ length c.args.disk.now = omega (arith, nth_inside c.args.b c.args.z.b (c.args.z.p * c.args.z.s) c.requires.laid.back, c.requires.laid.lent.disk_length) in
-    omega (arith, inside)
+overflow_mul-from-2 c = omega (arith, inside c.args.z c.args.b c.args.disk.now c.requires.laid.back c.requires.laid.lent.disk_length)
 
 pub overflow_mul-to : goal.overflow_mul-to
 overflow_mul-to c = omega (arith, products c.requires.laid.limits)
 
 pub overflow_add-to : goal.overflow_add-to
-unfolding bucket_size disk_size
-overflow_add-to c = let inside : c.args.b * (c.args.z.p * c.args.z.s) + c.args.z.p * c.args.z.s ≤ length c.args.disk.now = omega (arith, nth_inside c.args.b c.args.z.b (c.args.z.p * c.args.z.s) c.requires.laid.back, c.requires.laid.lent.disk_length) in
-    omega (arith, inside)
+overflow_add-to c = omega (arith, inside c.args.z c.args.b c.args.disk.now c.requires.laid.back c.requires.laid.lent.disk_length)
 
 pub slice_bounds-lay_within-end-2 : goal.slice_bounds-lay_within-end-2
-unfolding bucket_size disk_size
-slice_bounds-lay_within-end-2 c = let inside : c.args.b * (c.args.z.p * c.args.z.s) + c.args.z.p * c.args.z.s ≤ length c.args.disk.now = omega (arith, nth_inside c.args.b c.args.z.b (c.args.z.p * c.args.z.s) c.requires.laid.back, c.requires.laid.lent.disk_length) in
-    omega (arith, inside)
+slice_bounds-lay_within-end-2 c = omega (arith, inside c.args.z c.args.b c.args.disk.now c.requires.laid.back c.requires.laid.lent.disk_length)
 
 pub lay_within-requires-2 : goal.lay_within-requires-2
-unfolding bucket_size disk_size
-lay_within-requires-2 c = let inside : c.args.b * (c.args.z.p * c.args.z.s) + c.args.z.p * c.args.z.s ≤ length c.args.disk.now = omega (arith, nth_inside c.args.b c.args.z.b (c.args.z.p * c.args.z.s) c.requires.laid.back, c.requires.laid.lent.disk_length) in
-    let start = c in
-    let laid = start.requires.laid in
-    let a = start.args in
+unfolding bucket_size
+lay_within-requires-2 c = let laid = c.requires.laid in
+    let a = c.args in
     let size = a.z.p * a.z.s in
-    record { readable = readable laid; list_value = laid.logs; target_lt_c = (laid.bucket, omega (arith, laid.limits.c_low), start.requires.n_bound); aside = record { unlisted = laid.logs_aside; lent = inl (lent_length a.disk.now (a.b * size) size (inside)) } }
+    record {
+      readable = readable laid;
+      list_value = laid.logs;
+      target_lt_c = (laid.bucket, omega (arith, laid.limits.c_low), c.requires.n_bound);
+      aside = record {
+        unlisted = laid.logs_aside;
+        lent = inl (lent_length a.disk.now (a.b * size) size (inside a.z a.b a.disk.now laid.back laid.lent.disk_length));
+      };
+    }
 
 pub returns : goal.returns
-unfolding under_bytes disk_bytes bucket_size disk_size
-returns c = let inside : c.args.b * (c.args.z.p * c.args.z.s) + c.args.z.p * c.args.z.s ≤ length c.args.disk.now = omega (arith, nth_inside c.args.b c.args.z.b (c.args.z.p * c.args.z.s) c.requires.laid.back, c.requires.laid.lent.disk_length) in
-    let start = c in
-    let a = start.args in
+unfolding under_bytes disk_bytes bucket_size
+returns c = let laid = c.requires.laid in
+    let a = c.args in
     let size = a.z.p * a.z.s in
-    let some : empty (part a.disk.now (a.b * size) size) ≡ false =
-    empty-length (part a.disk.now (a.b * size) size) ∙ ne_eqb (length (part a.disk.now (a.b * size) size)) 0 (λ e. omega (arith, length-part-fits a.disk.now (a.b * size) size (inside), mul-le-mul start.requires.laid.limits.p_low start.requires.laid.limits.s_low)) in
+    let below = part a.disk.now (a.b * size) size in
+    let long = length-part-fits a.disk.now (a.b * size) size (inside a.z a.b a.disk.now laid.back laid.lent.disk_length) in
+    let one_byte = mul-le-mul laid.limits.p_low laid.limits.s_low in
+    let some : empty below ≡ false = empty-length below ∙ ne_eqb (length below) 0 (λ e. omega (arith, long, one_byte)) in
     let d = device a.flash.now a.spare.now a.disk.now in
-    rw (c.if-base.false, ← same-merge-all a.z d a.list.now (disk_bytes a.z d a.b)) (rw (lent_part a.disk.now (a.b * size) size, some) at c.lay_within-2.ensures)
+    rw (c.if-base.false, ← same-merge-all a.z d a.list.now (disk_bytes a.z d a.b))
+    (rw (lent_part a.disk.now (a.b * size) size, some) at c.lay_within-2.ensures)
