@@ -1,6 +1,5 @@
-use Prim.Native.Nat.{ℕ, ◌+◌, ◌*◌, ◌≤◌}
+use Prim.Native.Nat.{ℕ}
 use lib.Dec.{leb, eqb}
-use lib.ListN.{length}
 use native.Mathlib.Omega.{arith}
 use mathlib.Core.Path.{◌≡◌, sym, ap, ◌∙◌}
 use Rattle.lists.proofs.Tests.{every-four}
@@ -21,20 +20,16 @@ unfolding is_write used
 by_kind z d c = write_real (head_tag z d c)
 
 pub overflow_mul-page : goal.overflow_mul-page
-overflow_mul-page c = let inside : (c.args.e.cache * c.args.z.p + c.head-k.result) * 16 + 16 ≤ length c.args.spare.now = let p = c.requires in page_inside p.chip p.cache_lt_c c.head-k.ensures.inside in
-    omega (arith, inside)
+overflow_mul-page c = omega (arith, page_inside c.requires.chip c.requires.cache_lt_c c.head-k.ensures.inside)
 
 pub overflow_add-page : goal.overflow_add-page
-overflow_add-page c = let inside : (c.args.e.cache * c.args.z.p + c.head-k.result) * 16 + 16 ≤ length c.args.spare.now = let p = c.requires in page_inside p.chip p.cache_lt_c c.head-k.ensures.inside in
-    omega (arith, inside)
+overflow_add-page c = omega (arith, page_inside c.requires.chip c.requires.cache_lt_c c.head-k.ensures.inside)
 
 pub kind_at-write-requires : goal.kind_at-write-requires
-kind_at-write-requires c = let inside : (c.args.e.cache * c.args.z.p + c.head-k.result) * 16 + 16 ≤ length c.args.spare.now = let p = c.requires in page_inside p.chip p.cache_lt_c c.head-k.ensures.inside in
-    inside
+kind_at-write-requires c = page_inside c.requires.chip c.requires.cache_lt_c c.head-k.ensures.inside
 
 pub back_at-requires : goal.back_at-requires
-back_at-requires c = let inside : (c.args.e.cache * c.args.z.p + c.head-k.result) * 16 + 16 ≤ length c.args.spare.now = let p = c.requires in page_inside p.chip p.cache_lt_c c.head-k.ensures.inside in
-    inside
+back_at-requires c = page_inside c.requires.chip c.requires.cache_lt_c c.head-k.ensures.inside
 
 pub returns : goal.returns
 unfolding write_agrees count_agrees back_of tag_of page_index
@@ -47,4 +42,8 @@ returns c = let a = c.args in
       c.has_blanks-count.ensures,
       by_kind a.z d a.e.cache,
     )
-    (every-four (is_write a.z d a.e.cache) (eqb (back_of a.z d a.e.cache) a.e.back) (leb a.e.priority a.z.p) (eqb a.e.blank (blanks a.z d a.e.cache)))
+    (every-four
+    (is_write a.z d a.e.cache)
+    (eqb (back_of a.z d a.e.cache) a.e.back)
+    (leb a.e.priority a.z.p)
+    (eqb a.e.blank (blanks a.z d a.e.cache)))
