@@ -2,9 +2,7 @@ use Rattle.holes.proofs.First.{none_yet, none_more, first_at, first_last}
 use Rattle.image.specs.Chip.{spare_only}
 use Rattle.model.specs.Image.{page_programmed}
 use native.Mathlib.Omega.{arith}
-use mathlib.Core.Bool.{false}
 use mathlib.Core.Path.{sym, ◌∙◌}
-use Prim.Native.Nat.{◌-◌}
 use Rattle.holes.proofs.first_page.Goals as goal
 
 pub overflow_sub-last : goal.overflow_sub-last

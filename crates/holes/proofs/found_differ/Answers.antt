@@ -13,7 +13,6 @@ use lib.ListN.{length-set, length}
 use lib.Seq.{length-take-le, take-suc-set}
 use native.Mathlib.Omega.{arith}
 use native.Mathlib.Numerals.{add-one}
-use Prim.Native.Nat.{◌-◌}
 use mathlib.Core.Bool.{not, true, false}
 use mathlib.Core.Path.{◌≡◌, refl, sym, ap, ◌∙◌}
 use Rattle.holes.proofs.found_differ.Goals as goal

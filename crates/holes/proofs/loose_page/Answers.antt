@@ -1,4 +1,3 @@
-use lib.ListN.{length}
 use Rattle.holes.proofs.First.{some_first}
 use Rattle.image.proofs.Place.{page_inside}
 use Rattle.image.specs.Chip.{spare_only}
@@ -13,7 +12,6 @@ use lib.Dec.{eqb}
 use native.Mathlib.Omega.{arith}
 use mathlib.Core.Bool.{Bool, true, not, ◌&&◌}
 use mathlib.Core.Path.{◌≡◌, sym, ap, ◌∙◌}
-use Prim.Native.Nat.{◌+◌, ◌*◌, ◌≤◌}
 use Rattle.holes.proofs.loose_page.Goals as goal
 
 pub returns-then-not-page_programmed : goal.returns-then-not-page_programmed
@@ -21,40 +19,35 @@ unfolding loose_fits page_programmed
 returns-then-not-page_programmed c = sym (or_left _ _ (ap not (sym c.page_programmed.ensures ∙ c.if-not-page_programmed.true)))
 
 pub overflow_mul-page : goal.overflow_mul-page
-overflow_mul-page c = let page : (c.args.c * c.args.z.p + c.args.k) * 16 + 16 ≤ length c.args.spare.now = page_inside c.requires.chip c.requires.c_lt_c c.requires.k_lt_p in
-    omega (arith, page)
+overflow_mul-page c = omega (arith, page_inside c.requires.chip c.requires.c_lt_c c.requires.k_lt_p)
 
 pub overflow_add-page : goal.overflow_add-page
-overflow_add-page c = let page : (c.args.c * c.args.z.p + c.args.k) * 16 + 16 ≤ length c.args.spare.now = page_inside c.requires.chip c.requires.c_lt_c c.requires.k_lt_p in
-    omega (arith, page)
+overflow_add-page c = omega (arith, page_inside c.requires.chip c.requires.c_lt_c c.requires.k_lt_p)
 
 pub fields_at-f-requires : goal.fields_at-f-requires
-fields_at-f-requires c = let page : (c.args.c * c.args.z.p + c.args.k) * 16 + 16 ≤ length c.args.spare.now = page_inside c.requires.chip c.requires.c_lt_c c.requires.k_lt_p in
-    page
+fields_at-f-requires c = page_inside c.requires.chip c.requires.c_lt_c c.requires.k_lt_p
 
 pub overflow_mul-c : goal.overflow_mul-c
-overflow_mul-c c = let speaker : (c.args.c * c.args.z.p + c.args.first) * 16 + 16 ≤ length c.args.spare.now = page_inside c.requires.chip c.requires.c_lt_c c.requires.speaks.inside in
-    omega (arith, speaker)
+overflow_mul-c c = omega (arith, page_inside c.requires.chip c.requires.c_lt_c c.requires.speaks.inside)
 
 pub overflow_add-c : goal.overflow_add-c
-overflow_add-c c = let speaker : (c.args.c * c.args.z.p + c.args.first) * 16 + 16 ≤ length c.args.spare.now = page_inside c.requires.chip c.requires.c_lt_c c.requires.speaks.inside in
-    omega (arith, speaker)
+overflow_add-c c = omega (arith, page_inside c.requires.chip c.requires.c_lt_c c.requires.speaks.inside)
 
 pub fields_at-g-requires : goal.fields_at-g-requires
-fields_at-g-requires c = let speaker : (c.args.c * c.args.z.p + c.args.first) * 16 + 16 ≤ length c.args.spare.now = page_inside c.requires.chip c.requires.c_lt_c c.requires.speaks.inside in
-    speaker
+fields_at-g-requires c = page_inside c.requires.chip c.requires.c_lt_c c.requires.speaks.inside
 
 pub zeroed-zeroed-requires : goal.zeroed-zeroed-requires
-zeroed-zeroed-requires c = let page : (c.args.c * c.args.z.p + c.args.k) * 16 + 16 ≤ length c.args.spare.now = page_inside c.requires.chip c.requires.c_lt_c c.requires.k_lt_p in
-    page
+zeroed-zeroed-requires c = page_inside c.requires.chip c.requires.c_lt_c c.requires.k_lt_p
 
 pub fields_fit-requires : goal.fields_fit-requires
 fields_fit-requires c = c.requires.chip.limits
 
 pub returns : goal.returns
 unfolding loose_fits shares page_programmed tag_of page_index fields
-returns c = let o = c in let a = o.args in let d = spare_only a.spare.now in let tag = tag_of a.z d a.c a.k in let first = tag_of a.z d a.c a.first in let speaks = o.requires.speaks in
+returns c = let a = c.args in let d = spare_only a.spare.now in
+    let tag = tag_of a.z d a.c a.k in let first = tag_of a.z d a.c a.first in let speaks = c.requires.speaks in
     let p : programmed tag ≡ true = sym c.page_programmed.ensures ∙ c.if-not-page_programmed.false in
-    let e : first_tag a.z d a.c ≡ first = speaks.is (sym speaks.tells ∙ some_first a.z d a.c a.k o.requires.k_lt_p p) in
+    let e : first_tag a.z d a.c ≡ first = speaks.is (sym speaks.tells ∙ some_first a.z d a.c a.k c.requires.k_lt_p p) in
     let fits : c.fields_fit.result ≡ fields_fit a.z tag = c.fields_fit.ensures tag (sym c.fields_at-f.ensures) (sym c.zeroed-zeroed.ensures) in
-    rw (p, fits, c.fields_at-f.ensures, c.fields_at-g.ensures, e) (ap (λ (t : Bool). fields_fit a.z tag && t) (every_three (eqb (kind tag) (kind first)) (eqb (epoch tag) (epoch first)) (eqb (back tag) (back first))))
+    rw (p, fits, c.fields_at-f.ensures, c.fields_at-g.ensures, e)
+    (ap (λ (t : Bool). fields_fit a.z tag && t) (every_three (eqb (kind tag) (kind first)) (eqb (epoch tag) (epoch first)) (eqb (back tag) (back first))))
