@@ -20,6 +20,8 @@ NAME = re.compile(rf"[^{ENDS}]+")
 SIGNED = re.compile(rf"^(\s*)((?:pub\s+|abbrev\s+|unfoldable\s+)*)((?:[^{ENDS}]+\s+)+):\s")
 BOUND = re.compile(rf"[({{]((?:[^{ENDS}]+\s+)+):\s")
 FIELDS = ("in_use",)  # a record's field beside a definition: each keeps its name
+# fields and variables that a definition's new name meets
+BETTER = {"well-formed": "body_formed", "make-way": "ways_made", "dropped-writes": "writes_dropped", "dropped-copies": "copies_dropped"}
 USED = re.compile(r"^\s*(?:ghost )?use ([^\s{]+)\.\{([^}]*)\}")
 LIBRARY = ("mathlib.", "Prim.", "native.", "lib.", "borrow.", "denote.", "contract.", "Rattle.std", "Rattle.core")
 
@@ -110,7 +112,7 @@ def table():
         if len(olds) - len(lemmas) + (not lemmas) > 1 or new in library:
             print("falls together:", new, olds)
         for name in lemmas:
-            rows[name] = new + "_lem"
+            rows[name] = BETTER.get(name, new + "_lem")
         if new in own and not lemmas and new not in FIELDS:
             rows[new] = new + "_lem"
     with open(TABLE, "w", encoding="utf-8") as f:

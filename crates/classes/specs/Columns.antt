@@ -34,12 +34,12 @@ module _ (z : Sizes) (d : Device) where
   column t = map (named t) in_order
 
   -- all Write buckets and the dropped ones; the copy of each back-end bucket and the dropped ones
-  pub record Columns (order writes dropped_writes_lem copies dropped_copies_lem : List ℕ) : Type 0 where
+  pub record Columns (order writes writes_dropped copies copies_dropped : List ℕ) : Type 0 where
     pub order_is : order ≡ in_order
     pub writes_are : writes ≡ column (is_write z d)
-    pub dropped_writes_are : dropped_writes_lem ≡ column (is_dropped_write z d)
+    pub dropped_writes_are : writes_dropped ≡ column (is_dropped_write z d)
     pub copies_are : copies ≡ column (is_chosen z d)
-    pub dropped_copies_are : dropped_copies_lem ≡ column (is_dropped_copy z d)
+    pub dropped_copies_are : copies_dropped ≡ column (is_dropped_copy z d)
 
 -- ---- columns from columns
 

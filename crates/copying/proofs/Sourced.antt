@@ -42,7 +42,7 @@ module _ {z : Sizes} {list : List ℕ} {base : Found} {b target : ℕ} {flash sp
   d = device flash spare disk
 
   pub readable : Readable z flash spare
-  readable = record { limits = laid.limits; flash_length = laid.lent.flash_length; spare_length = laid.lent.spare_length; well_formed_lem = laid.well_formed_lem }
+  readable = record { limits = laid.limits; flash_length = laid.lent.flash_length; spare_length = laid.lent.spare_length; body_formed = laid.body_formed }
 
   under_size : length (under_bytes z d base b) ≡ bucket_size z
   unfolding under_bytes
@@ -74,7 +74,7 @@ module _ {s : State} {b : ℕ} {flash spare disk flash' spare' disk' : List ℕ}
   laid_in lent = record {
     limits = sources.limits;
     lent = lent;
-    well_formed_lem = same-body-fits s.sizes (device flash' spare' disk') ∙ formed s.sizes sources.limits.p_low unmoved (sym (same-body-fits s.sizes (device flash spare disk)) ∙ sources.well_formed_lem);
+    body_formed = same-body-fits s.sizes (device flash' spare' disk') ∙ formed s.sizes sources.limits.p_low unmoved (sym (same-body-fits s.sizes (device flash spare disk)) ∙ sources.body_formed);
     back = sources.back;
     bucket = on_chip s.sizes _ (room_inside s.sizes s (device flash spare disk) ready);
     logs = listed;

@@ -30,7 +30,7 @@ module _ (z : Sizes) (d : Device) where
 pub record Laid (z : Sizes) (list : List ℕ) (base : Found) (b target : ℕ) (flash spare disk : List ℕ) : Type 0 where
   pub limits : Limits z
   pub lent : Lent z flash spare disk
-  pub well_formed_lem : body_fits z (spare_only spare) ≡ true
+  pub body_formed : body_fits z (spare_only spare) ≡ true
   pub back : b < z.b
   pub bucket : target < z.c
   pub logs : all (is_below (body z)) list ≡ true

@@ -7,4 +7,4 @@ use Rattle.checks.proofs.Opens.{Open, open_orderly, open_formed}
 use Rattle.drain.specs.Listed.{Drains}
 
 pub drains : {s : State} {d : Device} → Open s d → Drains s d.spare
-drains {s} {d} o = record { orderly = open_orderly o; well_formed_lem = open_formed o; fits = same-fits s d ∙ o.fits }
+drains {s} {d} o = record { orderly = open_orderly o; body_formed = open_formed o; fits = same-fits s d ∙ o.fits }

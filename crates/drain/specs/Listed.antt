@@ -10,7 +10,7 @@ use Rattle.steps.specs.Ready.{Orderly}
 -- the state's queues fit a chip made by the page rules
 pub record Drains (s : State) (spare : List ℕ) : Type 0 where
   pub orderly : Orderly s
-  pub well_formed_lem : body_fits s.sizes (spare_only spare) ≡ true
+  pub body_formed : body_fits s.sizes (spare_only spare) ≡ true
   pub fits : state_fits s (spare_only spare) ≡ true
 
 -- and the unclean back-end buckets are the listed ones

@@ -33,7 +33,7 @@ pub sources_of : {s : State} {b : ℕ} {flash spare disk : List ℕ} → Orderly
 sources_of {s} {b} o formed back lent = record {
   limits = o.limits;
   lent = lent;
-  well_formed_lem = formed;
+  body_formed = formed;
   back = back;
   read = cache_inside (body s.sizes) b s.reads o.reads (body-some o);
   write = cache_inside (body s.sizes) b s.writes o.writes (body-some o);
@@ -45,7 +45,7 @@ module _ {s : State} {b : ℕ} {flash spare disk : List ℕ} (sources : Sources 
     limits = sources.limits;
     flash_length = sources.lent.flash_length;
     spare_length = sources.lent.spare_length;
-    well_formed_lem = sources.well_formed_lem;
+    body_formed = sources.body_formed;
   }
 
   lengths : Lengths s.sizes (device flash spare disk)

@@ -11,7 +11,7 @@ use Rattle.image.specs.Chip.{spare_only}
 pub record Sources (s : State) (b : ℕ) (flash spare disk : List ℕ) : Type 0 where
   pub limits : Limits s.sizes
   pub lent : Lent s.sizes flash spare disk
-  pub well_formed_lem : body_fits s.sizes (spare_only spare) ≡ true
+  pub body_formed : body_fits s.sizes (spare_only spare) ≡ true
   pub back : b < s.sizes.b
   pub read : cache_of b s.reads < body s.sizes
   pub write : cache_of b s.writes < body s.sizes

@@ -37,7 +37,7 @@ pub record Passed (s : State) (d : Device) : Type 0 where
   pub in_limits : limits s.sizes ≡ true
   pub lent_whole : lengths s.sizes d ≡ true
   pub runs : s.running ≡ true
-  pub well_formed_lem : well_formed s.sizes d ≡ true
+  pub body_formed : well_formed s.sizes d ≡ true
   pub state_fits_lem : state_fits s d ≡ true
 
 pub tests_passed : (s : State) (d : Device) (ts : List Test) → first_failed (running_tests s d ++ ts) ≡ 0 → Passed s d × (first_failed ts ≡ 0)
@@ -48,7 +48,7 @@ tests_passed s d ts h =
     let three = first_passed 2 _ _ two.1 in
     let four = first_passed 3 _ _ three.1 in
     let five = first_passed 4 _ _ four.1 in
-    (record { in_limits = one.0; lent_whole = two.0; runs = three.0; well_formed_lem = four.0; state_fits_lem = five.0 }, five.1)
+    (record { in_limits = one.0; lent_whole = two.0; runs = three.0; body_formed = four.0; state_fits_lem = five.0 }, five.1)
 
 pub running_passed : (s : State) (d : Device) (ts : List Test) → first_failed (running_tests s d ++ ts) ≡ 0 → (s.running ≡ true) × (first_failed ts ≡ 0)
 running_passed s d ts h = let pass = tests_passed s d ts h in (pass.0.runs, pass.1)

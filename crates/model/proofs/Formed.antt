@@ -1,4 +1,4 @@
--- What a well_formed_lem image says of its tags, page by page and bucket by bucket.
+-- What a body_formed image says of its tags, page by page and bucket by bucket.
 use Prim.Native.Nat.{ℕ, zero, suc, ◌+◌, ◌-◌, ◌*◌, ◌≤◌, ◌<◌}
 use mathlib.Core.Path.{◌≡◌, refl, sym, ap, ◌∙◌}
 use mathlib.Core.Logic.{◌⊎◌, inl, inr}

@@ -120,7 +120,7 @@ module _ (b off : ℕ) (bytes : List ℕ) (s : State) (d : Device) (r : refusal 
         first = first;
         epoch = e;
         highest = highest;
-        make_way_lem = way;
+        ways_made = way;
         is_highest = omega (arith, some_page);
         done_with = done_with_last (write_call b off bytes) s d r refl (before ++ row highest page) (page highest)
             (is ∙ ap (λ (n : ℕ). before ++ row n page) some_page ∙ sym (append_assoc before (row highest page) (page highest ∷ [])));

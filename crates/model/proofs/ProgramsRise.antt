@@ -93,7 +93,7 @@ module _ (s : State) (d : Device) (pass : Passed s d) where
     in_chip = in_place s d pass;
     once = λ c. go c (ltb c (body z)) (once_of (body z) s (every_at _ pass.state_fits_lem 0) c);
     blanks = blanks_of z d s.free (every_at _ pass.state_fits_lem 7);
-    ledger = shape_of z (bounds s d pass).p_low d (every_at _ pass.well_formed_lem 2) (every_at _ pass.well_formed_lem 3) (every_at _ pass.state_fits_lem 13);
+    ledger = shape_of z (bounds s d pass).p_low d (every_at _ pass.body_formed 2) (every_at _ pass.body_formed 3) (every_at _ pass.state_fits_lem 13);
   }
     where
       go : (c : ℕ) (t : Bool) → places s c ≡ (if t then 1 else 0) → places s c ≤ 1

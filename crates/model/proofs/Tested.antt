@@ -36,7 +36,7 @@ module _ (s : State) (d : Device) (pass : Passed s d) where
 
   pub formed : Formed s.sizes d
   unfolding well_formed
-  formed = formed_of z d (every_at _ pass.well_formed_lem 0)
+  formed = formed_of z d (every_at _ pass.body_formed 0)
 
   pub in_place : (c : ℕ) → 1 ≤ places s c → c < body s.sizes
   unfolding state_fits

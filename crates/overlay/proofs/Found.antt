@@ -40,7 +40,7 @@ use Rattle.overlay.proofs.Logs.{in_flash, merged-length, log_place, log_laid, en
 module _ {z : Sizes} {spare : List ℕ} (tagged : Tagged z spare) {c : ℕ} (bucket : c < body z) {k : ℕ} (page : k < z.p) where
   -- what is said of the spare area needs no flash of its own
   blank_flash : Readable z (replicate (flash_size z) 0) spare
-  blank_flash = record { limits = tagged.limits; flash_length = length-replicate (flash_size z) 0; spare_length = tagged.spare_length; well_formed_lem = tagged.well_formed_lem }
+  blank_flash = record { limits = tagged.limits; flash_length = length-replicate (flash_size z) 0; spare_length = tagged.spare_length; body_formed = tagged.body_formed }
 
   pub lays_nothing : ends_log z (spare_only spare) c k ≡ false → Lays z spare c k (record { low = 0; high = 0; at = 0 })
   lays_nothing e = record {

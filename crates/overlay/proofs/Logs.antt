@@ -1,4 +1,4 @@
--- The complete logs of a well_formed_lem chip lie within it, and each is laid by its own page.
+-- The complete logs of a body_formed chip lie within it, and each is laid by its own page.
 use Rattle.model.proofs.Limits.{on_chip}
 use mathlib.Core.Path.{◌≡◌, sym, ap, ◌∙◌}
 use mathlib.Core.Bool.{true, false}
@@ -37,7 +37,7 @@ in_flash z flash c a e h g = let q : suc c * bucket_size z ≤ z.c * bucket_size
 
 module _ {z : Sizes} {flash spare : List ℕ} (readable : Readable z flash spare) {c : ℕ} (bucket : c < body z) where
   formed : (disk : List ℕ) → Formed z (device flash spare disk)
-  formed disk = formed_of z (device flash spare disk) (sym (same-body-fits z (device flash spare disk)) ∙ readable.well_formed_lem)
+  formed disk = formed_of z (device flash spare disk) (sym (same-body-fits z (device flash spare disk)) ∙ readable.body_formed)
 
   fit : bucket_fits z (chip flash spare) c ≡ true
   fit = (formed []).buckets_fit c bucket
@@ -119,7 +119,7 @@ module _ {z : Sizes} {flash spare : List ℕ} (readable : Readable z flash spare
 
   blank_ends : (k : ℕ) → z.p - blanks z (spare_only spare) c ≤ k → k < z.p → ends_log z (spare_only spare) c k ≡ false
   blank_ends k h page =
-      let fits = (formed_of z (spare_only spare) readable.well_formed_lem).buckets_fit c bucket in
+      let fits = (formed_of z (spare_only spare) readable.body_formed).buckets_fit c bucket in
       nothing_ends k (blank_unprogrammed (tag_of z (spare_only spare) c k) (blank_from_lem z (spare_only spare) c fits k page ∙ le-leb (z.p - blanks z (spare_only spare) c) k h))
 
   -- nor by the blank pages at the end

@@ -26,7 +26,7 @@ use Rattle.overlay.specs.Runs.{Inside, Runs, lent_over, Moves, moved_over, Shows
 use Rattle.overlay.proofs.Found.{merge-all-length}
 
 pub tagged_of : {z : Sizes} {flash spare : List ℕ} → Readable z flash spare → Tagged z spare
-tagged_of r = record { limits = r.limits; spare_length = r.spare_length; well_formed_lem = r.well_formed_lem }
+tagged_of r = record { limits = r.limits; spare_length = r.spare_length; body_formed = r.body_formed }
 
 -- where a log's bytes lie there is flash
 pub stored : {z : Sizes} {flash spare list : List ℕ} {from x : ℕ} {r : Run} → Readable z flash spare → Runs z spare list from x r → r.covered ≡ true → r.at + (x - r.start) ≤ length flash

@@ -17,14 +17,14 @@ chip flash spare = device flash spare []
 pub record Tagged (z : Sizes) (spare : List ℕ) : Type 0 where
   pub limits : Limits z
   pub spare_length : length spare ≡ spare_size z
-  pub well_formed_lem : body_fits z (spare_only spare) ≡ true
+  pub body_formed : body_fits z (spare_only spare) ≡ true
 
 -- a chip that they let pass
 pub record Readable (z : Sizes) (flash spare : List ℕ) : Type 0 where
   pub limits : Limits z
   pub flash_length : length flash ≡ flash_size z
   pub spare_length : length spare ≡ spare_size z
-  pub well_formed_lem : body_fits z (spare_only spare) ≡ true
+  pub body_formed : body_fits z (spare_only spare) ≡ true
 
 -- a window that shows one whole from an index on comes to show another
 abbrev pub Turns : (from : ℕ) (whole result before after : List ℕ) → Type 0

@@ -31,7 +31,7 @@ use Rattle.read.specs.Reads.{Reads}
 use Rattle.read.proofs.Stays.{Stays, place_stays}
 
 pub sources : {s : State} {b off n : ℕ} {flash spare disk : List ℕ} → Reads s b off n spare → Lent s.sizes flash spare disk → Sources s b flash spare disk
-sources r l = sources_of r.drops.orderly r.well_formed_lem r.back l
+sources r l = sources_of r.drops.orderly r.body_formed r.back l
 
 -- t is s with a place for a copy of b
 pub record Placed (s t : State) (b : ℕ) : Type 0 where

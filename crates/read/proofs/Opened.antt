@@ -23,7 +23,7 @@ reads {s} {d} o r =
         back = λ h. read_back o (get_or s.reads 0 no_entry).back (holds_first s.reads h);
       };
       single = fits_single s d o.fits;
-      well_formed_lem = open_formed o;
+      body_formed = open_formed o;
       back = r.b_in;
       range = r.range_in;
     }

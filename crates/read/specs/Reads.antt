@@ -17,7 +17,7 @@ use Rattle.outcome.specs.Handed.{Handed, handed}
 pub record Reads (s : State) (b off n : ℕ) (spare : List ℕ) : Type 0 where
   pub drops : Drops s
   pub single : Single s
-  pub well_formed_lem : body_fits s.sizes (spare_only spare) ≡ true
+  pub body_formed : body_fits s.sizes (spare_only spare) ≡ true
   pub back : b < s.sizes.b
   pub range : off + n ≤ bucket_size s.sizes
 

@@ -47,7 +47,7 @@ module _ {z : Sizes} {flash spare : List ℕ} (readable : Readable z flash spare
   low = omega (arith, readable.limits.b_high)
 
   formed : Formed z o
-  formed = formed_of z o readable.well_formed_lem
+  formed = formed_of z o readable.body_formed
 
   lengths : Lengths z d
   lengths = lengths_of (record { flash_length = readable.flash_length; spare_length = readable.spare_length; disk_length = disk_length })
@@ -102,7 +102,7 @@ module _ {z : Sizes} {flash spare : List ℕ} (readable : Readable z flash spare
 
       go : (t : Bool) → flushed z o b ≡ t → length (rescued z d b) ≡ bucket_size z
       go true h = ap length (sym (rescued-merged h) ∙ same-merge-all z d logs (base_bytes z d b))
-          ∙ length-merge_all z d (omega (arith, readable.limits.s_low)) lengths (formed_of z d (sym (same-body-fits z d) ∙ readable.well_formed_lem)) logs below (base_bytes z d b) base_size
+          ∙ length-merge_all z d (omega (arith, readable.limits.s_low)) lengths (formed_of z d (sym (same-body-fits z d) ∙ readable.body_formed)) logs below (base_bytes z d b) base_size
       go false h = ap length (sym (rescued_own h lost)) ∙ base_size
 
 -- the stores depend on the disk's bytes of b, and on no other
@@ -126,5 +126,5 @@ readable_of sound = record {
   limits = sound.limits;
   flash_length = sound.lent.flash_length;
   spare_length = sound.lent.spare_length;
-  well_formed_lem = sound.well_formed_lem;
+  body_formed = sound.body_formed;
 }

@@ -14,12 +14,12 @@ use Rattle.classes.specs.Columns.{column, Columns}
 pub record Recoverable (z : Sizes) (flash spare disk : List ℕ) : Type 0 where
   pub limits : Limits z
   pub lent : Lent z flash spare disk
-  pub well_formed_lem : body_fits z (spare_only spare) ≡ true
+  pub body_formed : body_fits z (spare_only spare) ≡ true
 
 -- the columns that say where a back-end bucket's bytes are: all but that of the dropped copies
-abbrev pub Listed : (z : Sizes) (spare order writes dropped_writes_lem copies : List ℕ) → Type 0
-Listed z spare order writes dropped_writes_lem copies =
-    Columns z (spare_only spare) order writes dropped_writes_lem copies (column z (spare_only spare) (is_dropped_copy z (spare_only spare)))
+abbrev pub Listed : (z : Sizes) (spare order writes writes_dropped copies : List ℕ) → Type 0
+Listed z spare order writes writes_dropped copies =
+    Columns z (spare_only spare) order writes writes_dropped copies (column z (spare_only spare) (is_dropped_copy z (spare_only spare)))
 
 -- the units of every rescued back-end bucket
 unfoldable pub rescues : Sizes → Device → List Store

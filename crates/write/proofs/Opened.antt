@@ -26,7 +26,7 @@ open_writes {s} {d} o range epochs = record {
   yields = record {
     ready = open_ready o;
     single = fits_single s d o.fits;
-    well_formed_lem = open_formed o;
+    body_formed = open_formed o;
     backs = λ k. write-back o k;
     epochs = epochs;
   };

@@ -12,7 +12,7 @@ use Rattle.copying.specs.Fresh.{Single}
 pub record Yields (s : State) (spare : List ℕ) : Type 0 where
   pub ready : Ready s
   pub single : Single s
-  pub well_formed_lem : body_fits s.sizes (spare_only spare) ≡ true
+  pub body_formed : body_fits s.sizes (spare_only spare) ≡ true
   pub backs : (k : ℕ) → holds k s.writes ≡ true → k < s.sizes.b
   pub epochs : s.next ≤ last_epoch
 

@@ -21,4 +21,4 @@ pub merges-requires : goal.merges-requires
 unfolding bucket_size disk_size
 merges-requires c = let opened : let a = c.args in Image a.z (device a.flash.now a.spare.now a.disk.now) = let a = c.args in image_opens a.z (device a.flash.now a.spare.now a.disk.now) (rw c.image_refusal.ensures at c.if-image_refusal-ne0.false) in
     let inside : let a = c.args in a.z.p * a.z.s ≤ length a.disk.now = let z = c.args.z in let o = opened in omega (arith, nth_inside 0 z.b (z.p * z.s) o.limits.b_low, o.lent.disk_length) in
-    let a = c.args in let o = opened in record { readable = record { limits = o.limits; flash_length = o.lent.flash_length; spare_length = o.lent.spare_length; well_formed_lem = same-body-fits a.z (device a.flash.now a.spare.now a.disk.now) ∙ o.formed }; under_len = simp length-take (omega (arith, inside)); window_bound = omega (arith, c.if-size-from.false, c.if-size-from-2.false) }
+    let a = c.args in let o = opened in record { readable = record { limits = o.limits; flash_length = o.lent.flash_length; spare_length = o.lent.spare_length; body_formed = same-body-fits a.z (device a.flash.now a.spare.now a.disk.now) ∙ o.formed }; under_len = simp length-take (omega (arith, inside)); window_bound = omega (arith, c.if-size-from.false, c.if-size-from-2.false) }

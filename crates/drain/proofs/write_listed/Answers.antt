@@ -36,7 +36,7 @@ overflow_cast-b c = omega (arith, c.requires.listed.drains.orderly.limits.b_high
 pub write_merged-left-requires : goal.write_merged-left-requires
 write_merged-left-requires c = let sources : Sources (places_of c.args.s) c.loop-b.b c.args.flash.now c.args.spare.now c.loop-b.disk = let start = c in
     let drains = start.requires.listed.drains in
-    sources_of drains.orderly drains.well_formed_lem c.loop-b-test.true
+    sources_of drains.orderly drains.body_formed c.loop-b-test.true
     (record { flash_length = start.requires.lent.flash_length; spare_length = start.requires.lent.spare_length; disk_length = c.loop-b.invariant.1 }) in
     sources
 
@@ -55,7 +55,7 @@ loop-b-smaller c = let a = c.args in
 pub loop-b-preserved : goal.loop-b-preserved
 loop-b-preserved c = let sources : Sources (places_of c.args.s) c.loop-b.b c.args.flash.now c.args.spare.now c.loop-b.disk = let start = c in
     let drains = start.requires.listed.drains in
-    sources_of drains.orderly drains.well_formed_lem c.loop-b-test.true
+    sources_of drains.orderly drains.body_formed c.loop-b-test.true
     (record { flash_length = start.requires.lent.flash_length; spare_length = start.requires.lent.spare_length; disk_length = c.loop-b.invariant.1 }) in
     let start = c in
     let a = start.args in

@@ -14,7 +14,7 @@ use Rattle.merge.proofs.merge_range.Goals as goal
 
 pub pages_used-end-requires : goal.pages_used-end-requires
 pages_used-end-requires c = let s = c in let p = s.requires in
-    record { chip = record { limits = p.readable.limits; spare_length = p.readable.spare_length }; c_lt_c = on_chip s.args.z s.args.c p.c_bound; c_value = formed_bucket s.args.z (spare_only s.args.spare.now) p.readable.well_formed_lem s.args.c p.c_bound }
+    record { chip = record { limits = p.readable.limits; spare_length = p.readable.spare_length }; c_lt_c = on_chip s.args.z s.args.c p.c_bound; c_value = formed_bucket s.args.z (spare_only s.args.spare.now) p.readable.body_formed s.args.c p.c_bound }
 
 pub loop-k-init : goal.loop-k-init
 unfolding merge_to

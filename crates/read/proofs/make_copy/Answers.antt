@@ -23,7 +23,7 @@ copy-made-requires c = let start = c in
     let r = running a.flash.now a.spare.now a.disk.now a.meter in
     let place = c.make_place-place.ensures in
     let lens = lengths_of sources.lent in
-    let left = left_placed v asked.0 asked.2 a.b r place.result_after in record { lent = rw left.sizes place.lent_2; copies = (left.copies, left_single v asked.0 asked.2 a.b r place.result_after asked.1 lens); sources = left_sources v asked.0 asked.2 a.b r place.result_after asked.1 lens sources.well_formed_lem sources.back place.lent_2 }
+    let left = left_placed v asked.0 asked.2 a.b r place.result_after in record { lent = rw left.sizes place.lent_2; copies = (left.copies, left_single v asked.0 asked.2 a.b r place.result_after asked.1 lens); sources = left_sources v asked.0 asked.2 a.b r place.result_after asked.1 lens sources.body_formed sources.back place.lent_2 }
 
 pub shape_of-flash : goal.shape_of-flash
 shape_of-flash c = omega (arith, c.flash-2-1.given, c.flash-1.given)

@@ -22,7 +22,7 @@ slice_bounds-copy_columns-end-2 c = let s = c in sym (length-take-le (length s.a
 pub copy_columns-requires : goal.copy_columns-requires
 copy_columns-requires c = let s = c in
     let size = order_fits s.args.z (spare_only s.args.spare.now) s.requires.recoverable.limits s.requires.order_value in
-    record { chip = chip_of s.requires.recoverable; spare_value = s.requires.recoverable.well_formed_lem; order_value = s.requires.order_value; writes_value = s.requires.writes_value.1; copies_len = (length-take-le (length s.args.order.now) c.blank_column-copies.result (omega (arith, c.blank_column-copies.ensures, size)), length-take-le (length s.args.order.now) c.blank_column-dropped.result (omega (arith, c.blank_column-dropped.ensures, size))) }
+    record { chip = chip_of s.requires.recoverable; spare_value = s.requires.recoverable.body_formed; order_value = s.requires.order_value; writes_value = s.requires.writes_value.1; copies_len = (length-take-le (length s.args.order.now) c.blank_column-copies.result (omega (arith, c.blank_column-copies.ensures, size)), length-take-le (length s.args.order.now) c.blank_column-dropped.result (omega (arith, c.blank_column-dropped.ensures, size))) }
 
 pub slice_bounds-copies-end-2 : goal.slice_bounds-copies-end-2
 slice_bounds-copies-end-2 c = let s = c in let z = s.args.z in let d = spare_only s.args.spare.now in

@@ -23,7 +23,7 @@ slice_bounds-write_columns-end-2 c = let s = c in sym (length-take-le (length s.
 pub write_columns-requires : goal.write_columns-requires
 write_columns-requires c = let s = c in
     let size = order_fits s.args.z (spare_only s.args.spare.now) s.requires.recoverable.limits s.requires.order_value in
-    record { chip = chip_of s.requires.recoverable; spare_value = s.requires.recoverable.well_formed_lem; order_value = s.requires.order_value; writes_len = (length-take-le (length s.args.order.now) c.blank_column-writes.result (omega (arith, c.blank_column-writes.ensures, size)), length-take-le (length s.args.order.now) c.blank_column-dropped.result (omega (arith, c.blank_column-dropped.ensures, size))) }
+    record { chip = chip_of s.requires.recoverable; spare_value = s.requires.recoverable.body_formed; order_value = s.requires.order_value; writes_len = (length-take-le (length s.args.order.now) c.blank_column-writes.result (omega (arith, c.blank_column-writes.ensures, size)), length-take-le (length s.args.order.now) c.blank_column-dropped.result (omega (arith, c.blank_column-dropped.ensures, size))) }
 
 pub slice_bounds-writes-end-2 : goal.slice_bounds-writes-end-2
 slice_bounds-writes-end-2 c = let s = c in let z = s.args.z in let d = spare_only s.args.spare.now in

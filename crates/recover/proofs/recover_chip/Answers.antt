@@ -39,7 +39,7 @@ rebuild-requires c = let s = c in
       recoverable = record {
         limits = s.requires.limits;
         lent = swept.lent_2;
-        well_formed_lem = body_left a.allowance a.s (view_of a.s) a.z d ran c.if-meter.false s.requires.limits (lengths_of s.requires.lent) s.requires.found;
+        body_formed = body_left a.allowance a.s (view_of a.s) a.z d ran c.if-meter.false s.requires.limits (lengths_of s.requires.lent) s.requires.found;
       };
       left_le_allowance = swept_left a.allowance a.s (view_of a.s) a.z d ran;
     }

@@ -32,7 +32,7 @@ rescue_one-run-requires c = let start = c in
       recoverable = record {
         limits = start.requires.recoverable.limits;
         lent = record { flash_length = start.requires.recoverable.lent.flash_length; spare_length = start.requires.recoverable.lent.spare_length; disk_length = l.invariant.1 };
-        well_formed_lem = start.requires.recoverable.well_formed_lem;
+        body_formed = start.requires.recoverable.body_formed;
       };
       listed = start.requires.listed;
       b_lt_b = (here, same-rescued x.z (device x.flash.now x.spare.now x.disk.now) l.b ∙ l.invariant.3 here);

@@ -18,7 +18,7 @@ outgoing-out-requires c = let p = c.requires in
 pub evict-requires : goal.evict-requires
 evict-requires c = let p = c.requires in
     let held = outgoing_held _ _ _ _ _ p.yields.ready.orderly.limits.w_low (sym c.outgoing-out.ensures ∙ c.in-Bucket.is) in
-    record { lent = p.lent; evicts = (yields_evicts p.yields _ held, p.yields.well_formed_lem) }
+    record { lent = p.lent; evicts = (yields_evicts p.yields _ held, p.yields.body_formed) }
 
 pub returns-in-Bucket : goal.returns-in-Bucket
 unfolding make_way evict_any after

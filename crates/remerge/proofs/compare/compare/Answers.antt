@@ -8,4 +8,4 @@ pub compare_all-requires : goal.compare_all-requires
 compare_all-requires c = let a = c.args in
     let d = device a.flash.now a.spare.now a.disk.now in
     let opened = image_opens a.z d (rw c.image_refusal.ensures at c.if-image_refusal-ne0.false) in
-    record { readable = record { limits = opened.limits; flash_length = opened.lent.flash_length; spare_length = opened.lent.spare_length; well_formed_lem = same-body-fits a.z d ∙ opened.formed }; disk_len = opened.lent.disk_length }
+    record { readable = record { limits = opened.limits; flash_length = opened.lent.flash_length; spare_length = opened.lent.spare_length; body_formed = same-body-fits a.z d ∙ opened.formed }; disk_len = opened.lent.disk_length }
