@@ -1,5 +1,4 @@
-// A walk along a line's frame of bytes, from field to field. The borrow checker covers no function over a struct that holds a
-// reference, so these are few, thin and proved by hand.
+// A walk along a line's frame of bytes, from field to field.
 #![tactic(auto)]
 
 ghost use Rattle.std.specs.Prelude.{◌≡◌, ◌+◌, ◌<◌, ◌^◌, length, drop};
