@@ -191,10 +191,20 @@ fn run(streams: &mut Streams, text: &mut [u8], flash: &mut [u8], spare: &mut [u8
     }
 }
 
+// The arrays as slices of their lengths.
+fn lend(
+    streams: &mut Streams,
+    text: &mut [u8; ROOM],
+    flash: &mut [u8; DATA],
+    spare: &mut [u8; SPARE],
+) {
+    run(streams, text, flash, spare);
+}
+
 fn main(rt: HostRuntime) {
     let mut streams = streams::open(&rt);
     let mut text = [0u8; ROOM];
     let mut flash = [0u8; DATA];
     let mut spare = [0u8; SPARE];
-    run(&mut streams, &mut text, &mut flash, &mut spare);
+    lend(&mut streams, &mut text, &mut flash, &mut spare);
 }
