@@ -7,7 +7,6 @@ use Rattle.lists.specs.Lists.{row}
 use native.Mathlib.Omega.{arith}
 use mathlib.Core.Path.{◌≡◌, refl}
 use lib.ListN.{length}
-use Prim.Native.Nat.{◌-◌}
 use Rattle.log_pages.proofs.program_log.Goals as goal
 
 pub pages_for-pages-requires : goal.pages_for-pages-requires

@@ -1,31 +1,34 @@
-use Prim.Native.Nat.{◌+◌, ◌*◌, ◌≤◌}
+use Prim.Native.Nat.{ℕ, ◌+◌, ◌*◌, ◌≤◌, ◌<◌}
+use mathlib.Core.List.{List}
+use mathlib.Core.Path.{◌≡◌}
 use native.Mathlib.Omega.{arith}
 use lib.ListN.{length}
-use Rattle.model.specs.Sizes.{page_index}
+use Rattle.model.specs.declared.Sizes.{Sizes}
+use Rattle.model.specs.Sizes.{page_index, pages_for, spare_size}
+use Rattle.log_pages.specs.declared.Log.{Log}
+use Rattle.log_pages.specs.Logs.{Fits}
 use Rattle.geometry.proofs.Places.{page_spare}
 use Rattle.log_pages.proofs.Tagged.{tag-length}
 use Rattle.log_pages.proofs.write_tag.Goals as goal
 
+-- the page's spare bytes lie within the area
+inside : {z : Sizes} {log : Log} {n o : ℕ} (spare : List ℕ) → Fits z log n × (o < pages_for z n) × (length spare ≡ spare_size z)
+    → (log.bucket * z.p + (log.first + o)) * 16 + 16 ≤ length spare
+inside {z} {log} {n} {o} spare h =
+    omega (arith, page_spare z log.bucket (log.first + o) h.0.bucket (omega (arith, h.0.room, h.1)), h.2)
+
 pub overflow_mul-at : goal.overflow_mul-at
-overflow_mul-at c = let inside : (c.args.log.bucket * c.args.z.p + (c.args.log.first + c.args.o)) * 16 + 16 ≤ length c.args.spare.now = let a = c.args in
-    omega (arith, page_spare a.z a.log.bucket (a.log.first + a.o) c.requires.0.bucket (omega (arith, c.requires.0.room, c.requires.1)), c.requires.2) in
-    omega (arith, inside)
+overflow_mul-at c = omega (arith, inside c.args.spare.now c.requires)
 
 pub overflow_add-at-2 : goal.overflow_add-at-2
-overflow_add-at-2 c = let inside : (c.args.log.bucket * c.args.z.p + (c.args.log.first + c.args.o)) * 16 + 16 ≤ length c.args.spare.now = let a = c.args in
-    omega (arith, page_spare a.z a.log.bucket (a.log.first + a.o) c.requires.0.bucket (omega (arith, c.requires.0.room, c.requires.1)), c.requires.2) in
-    omega (arith, inside)
+overflow_add-at-2 c = omega (arith, inside c.args.spare.now c.requires)
 
 pub overflow_mul-at-2 : goal.overflow_mul-at-2
-overflow_mul-at-2 c = let inside : (c.args.log.bucket * c.args.z.p + (c.args.log.first + c.args.o)) * 16 + 16 ≤ length c.args.spare.now = let a = c.args in
-    omega (arith, page_spare a.z a.log.bucket (a.log.first + a.o) c.requires.0.bucket (omega (arith, c.requires.0.room, c.requires.1)), c.requires.2) in
-    omega (arith, inside)
+overflow_mul-at-2 c = omega (arith, inside c.args.spare.now c.requires)
 
 pub write_at-requires : goal.write_at-requires
-write_at-requires c = let inside : (c.args.log.bucket * c.args.z.p + (c.args.log.first + c.args.o)) * 16 + 16 ≤ length c.args.spare.now = let a = c.args in
-    omega (arith, page_spare a.z a.log.bucket (a.log.first + a.o) c.requires.0.bucket (omega (arith, c.requires.0.room, c.requires.1)), c.requires.2) in
-    let a = c.args in
-    rw (c.encode-tag.ensures, c.page_fields-fields.ensures, tag-length a.z a.log a.n a.o) (inside)
+write_at-requires c = let a = c.args in
+    rw (c.encode-tag.ensures, c.page_fields-fields.ensures, tag-length a.z a.log a.n a.o) (inside a.spare.now c.requires)
 
 pub returns : goal.returns
 unfolding page_index
