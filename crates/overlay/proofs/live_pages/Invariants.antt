@@ -1,5 +1,4 @@
 use Rattle.overlay.specs.Runs.{EndsBy}
-use Prim.Native.Nat.{◌-◌}
 use Rattle.overlay.proofs.live_pages.Given as goal
 
 abbrev pub invariant-loop-n : goal.invariant-loop-n

@@ -1,13 +1,12 @@
 use Rattle.overlay.specs.Runs.{moved_over}
 use Rattle.lists.proofs.Arrays.{empty-length}
-use Rattle.lists.proofs.Parts.{Apart}
 use Rattle.lists.specs.Lists.{part}
 use borrow.Author.Tests.{eq-eqb, ne_eqb}
 use lib.ListN.{length}
 use native.Mathlib.Omega.{arith}
 use mathlib.Core.Logic.{◌⊎◌, inl, inr}
 use mathlib.Core.Path.{◌≡◌}
-use Prim.Native.Nat.{ℕ, ◌<◌, ◌+◌, ◌-◌, ◌≤◌}
+use Prim.Native.Nat.{ℕ, ◌<◌, ◌≤◌}
 use Rattle.overlay.proofs.move_run.Goals as goal
 
 -- what lies under the logs, where it is lent and where it is not

@@ -1,6 +1,6 @@
 use Rattle.overlay.proofs.Found.{Among}
 use lib.ListN.{length}
-use Prim.Native.Nat.{◌-◌, ◌≤◌, ◌<◌}
+use Prim.Native.Nat.{◌≤◌, ◌<◌}
 use Rattle.overlay.proofs.run_at.Given as goal
 
 abbrev pub invariant-loop-j : goal.invariant-loop-j

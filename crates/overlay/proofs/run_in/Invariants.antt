@@ -1,5 +1,5 @@
 use Rattle.overlay.proofs.Found.{Above}
-use Prim.Native.Nat.{◌-◌, ◌≤◌, ◌<◌}
+use Prim.Native.Nat.{◌≤◌, ◌<◌}
 use Rattle.overlay.proofs.run_in.Given as goal
 
 abbrev pub invariant-loop-k : goal.invariant-loop-k
