@@ -1,31 +1,36 @@
+use Rattle.std.specs.Prelude.{ℕ, ◌≢◌, List, length}
 use mathlib.Core.Path.{◌≡◌, sym, ◌∙◌}
 use mathlib.Core.Bool.{true, false}
 use borrow.Author.Tests.{eq-eqb, ne_eqb}
 use Rattle.lists.specs.Lists.{empty}
 use Rattle.lists.proofs.Arrays.{empty-length}
 use Rattle.model.specs.Steps.{erase_step, make_room, nothing}
-use Rattle.fifo.specs.View.{list_of}
 use Rattle.state.specs.View.{places_of}
 use Rattle.state.proofs.Bounds.{freed_bounded}
 use Rattle.state.proofs.State.roomed.Goals as goal
 
+module _ {n : ℕ} (l : List ℕ) (used : n ≡ length l) where
+  -- with none in use it is empty
+  none : n ≡ 0 → empty l ≡ true
+  none e = empty-length l ∙ eq-eqb _ _ (sym used ∙ e)
+
+  -- with some it is not
+  some : n ≢ 0 → empty l ≡ false
+  some h = empty-length l ∙ ne_eqb _ _ (λ e. h (used ∙ e))
+
 pub freed-requires : goal.freed-requires
-freed-requires c = let some-gc : empty (list_of c.args.self.gc) ≡ false = empty-length (list_of c.args.self.gc) ∙ ne_eqb _ _ (λ z. c.if-used-ne0.true (c.used-then-used-eq0.ensures.0 ∙ z)) in
-    freed_bounded (places_of c.args.self) c.requires (some-gc)
+freed-requires c = freed_bounded (places_of c.args.self) c.requires (some _ c.used-then-used-eq0.ensures.0 c.if-used-ne0.true)
 
 pub returns-then-used-ne0 : goal.returns-then-used-ne0
 unfolding make_room erase_step
-returns-then-used-ne0 c = let no-free : empty (list_of c.args.self.free) ≡ true = empty-length (list_of c.args.self.free) ∙ eq-eqb _ _ (sym c.used.ensures.0 ∙ c.if-used-eq0.true) in
-    let some-gc : empty (list_of c.args.self.gc) ≡ false = empty-length (list_of c.args.self.gc) ∙ ne_eqb _ _ (λ z. c.if-used-ne0.true (c.used-then-used-eq0.ensures.0 ∙ z)) in
-    λ d. rw (no-free, some-gc) c.freed.ensures
+returns-then-used-ne0 c = λ d.
+    rw (none _ c.used.ensures.0 c.if-used-eq0.true, some _ c.used-then-used-eq0.ensures.0 c.if-used-ne0.true) c.freed.ensures
 
 pub returns-else-used-ne0 : goal.returns-else-used-ne0
 unfolding make_room erase_step nothing
-returns-else-used-ne0 c = let no-free : empty (list_of c.args.self.free) ≡ true = empty-length (list_of c.args.self.free) ∙ eq-eqb _ _ (sym c.used.ensures.0 ∙ c.if-used-eq0.true) in
-    λ d. let gc = list_of c.args.self.gc in
-    rw (no-free, empty-length gc, eq-eqb _ _ (sym c.used-then-used-eq0.ensures.0 ∙ c.if-used-ne0.false))
+returns-else-used-ne0 c = λ d.
+    rw (none _ c.used.ensures.0 c.if-used-eq0.true, none _ c.used-then-used-eq0.ensures.0 c.if-used-ne0.false)
 
 pub returns-else-used-eq0 : goal.returns-else-used-eq0
 unfolding make_room nothing
-returns-else-used-eq0 c = λ d. let free = list_of c.args.self.free in
-    rw (empty-length free, ne_eqb _ _ (λ z. c.if-used-eq0.false (c.used.ensures.0 ∙ z)))
+returns-else-used-eq0 c = λ d. rw (some _ c.used.ensures.0 c.if-used-eq0.false)

@@ -7,7 +7,6 @@ use Rattle.model.specs.State.{moved, entry, without}
 use Rattle.fifo.specs.View.{list_of}
 use Rattle.queue.specs.View.{entries_of}
 use Rattle.state.proofs.Bounds.{gc_fits}
-use Rattle.state.proofs.State.take_copy.Reads as reads
 use Rattle.state.proofs.State.take_copy.Goals as goal
 
 pub taken-requires : goal.taken-requires
