@@ -13,15 +13,12 @@ pub table_end-writes_at-requires : goal.table_end-writes_at-requires
 table_end-writes_at-requires c = ((placed c.args.bytes.now c.requires).long, omega arith, omega arith)
 
 pub table_end-gc_at-requires : goal.table_end-gc_at-requires
-table_end-gc_at-requires c = let l = c.args.bytes.now in
-    let writes : c.table_end-writes_at.result ≡ writes_at l = c.table_end-writes_at.ensures (entry_widths false) read_wide in
-    (rw writes (placed l c.requires).writes_in, omega arith, omega arith)
+table_end-gc_at-requires c = (rw (c.table_end-writes_at.ensures (entry_widths false) read_wide) (placed c.args.bytes.now c.requires).writes_in, omega arith, omega arith)
 
 pub table_end-free_at-requires : goal.table_end-free_at-requires
-table_end-free_at-requires c = let l = c.args.bytes.now in
-    let writes : c.table_end-writes_at.result ≡ writes_at l = c.table_end-writes_at.ensures (entry_widths false) read_wide in
-    let gc : c.table_end-gc_at.result ≡ gc_at l = rw writes at (c.table_end-gc_at.ensures (entry_widths true) write_wide) in
-    (rw gc (placed l c.requires).gc_in, omega arith, omega arith)
+table_end-free_at-requires c = let writes = c.table_end-writes_at.ensures (entry_widths false) read_wide in
+    let gc = rw writes at (c.table_end-gc_at.ensures (entry_widths true) write_wide) in
+    (rw gc (placed c.args.bytes.now c.requires).gc_in, omega arith, omega arith)
 
 pub sizes_in-sizes-requires : goal.sizes_in-sizes-requires
 unfolding width
@@ -32,24 +29,20 @@ queue_at-reads-requires c = let p = placed c.args.bytes.now c.requires in
     (p.long, p.reads_fit)
 
 pub queue_at-writes-requires : goal.queue_at-writes-requires
-queue_at-writes-requires c = let l = c.args.bytes.now in
-    let p = placed l c.requires in
-    let writes : c.table_end-writes_at.result ≡ writes_at l = c.table_end-writes_at.ensures (entry_widths false) read_wide in
-    rw writes (p.writes_in, p.writes_fit)
+queue_at-writes-requires c = let p = placed c.args.bytes.now c.requires in
+    rw (c.table_end-writes_at.ensures (entry_widths false) read_wide) (p.writes_in, p.writes_fit)
 
 pub fifo_at-gc-requires : goal.fifo_at-gc-requires
-fifo_at-gc-requires c = let l = c.args.bytes.now in
-    let p = placed l c.requires in
-    let writes : c.table_end-writes_at.result ≡ writes_at l = c.table_end-writes_at.ensures (entry_widths false) read_wide in
-    let gc : c.table_end-gc_at.result ≡ gc_at l = rw writes at (c.table_end-gc_at.ensures (entry_widths true) write_wide) in
+fifo_at-gc-requires c = let p = placed c.args.bytes.now c.requires in
+    let writes = c.table_end-writes_at.ensures (entry_widths false) read_wide in
+    let gc = rw writes at (c.table_end-gc_at.ensures (entry_widths true) write_wide) in
     rw gc (p.gc_in, p.gc_fit)
 
 pub fifo_at-free-requires : goal.fifo_at-free-requires
-fifo_at-free-requires c = let l = c.args.bytes.now in
-    let p = placed l c.requires in
-    let writes : c.table_end-writes_at.result ≡ writes_at l = c.table_end-writes_at.ensures (entry_widths false) read_wide in
-    let gc : c.table_end-gc_at.result ≡ gc_at l = rw writes at (c.table_end-gc_at.ensures (entry_widths true) write_wide) in
-    let free : c.table_end-free_at.result ≡ free_at l = rw gc at (c.table_end-free_at.ensures bucket_widths bucket_wide) in
+fifo_at-free-requires c = let p = placed c.args.bytes.now c.requires in
+    let writes = c.table_end-writes_at.ensures (entry_widths false) read_wide in
+    let gc = rw writes at (c.table_end-gc_at.ensures (entry_widths true) write_wide) in
+    let free = rw gc at (c.table_end-free_at.ensures bucket_widths bucket_wide) in
     rw free (p.free_in, p.free_fit)
 
 pub number_at-requires : goal.number_at-requires
@@ -64,7 +57,12 @@ bounds-bytes-9 c = omega (arith, (placed c.args.bytes.now c.requires).long)
 pub returns : goal.returns
 unfolding state_of state_in
 returns c = let l = c.args.bytes.now in
-    let writes : c.table_end-writes_at.result ≡ writes_at l = c.table_end-writes_at.ensures (entry_widths false) read_wide in
-    let gc : c.table_end-gc_at.result ≡ gc_at l = rw writes at (c.table_end-gc_at.ensures (entry_widths true) write_wide) in
-    let free : c.table_end-free_at.result ≡ free_at l = rw gc at (c.table_end-free_at.ensures bucket_widths bucket_wide) in
-    rw (c.sizes_in-sizes.ensures, c.queue_at-reads.ensures, c.queue_at-writes.ensures, c.fifo_at-gc.ensures, c.fifo_at-free.ensures, c.number_at.ensures.0, writes, gc, free, from_reads_lem l, from_writes_lem l, from_gc_lem l, from_free_lem l, head_at l, ← byte_number l 9, ← byte_number l 10)
+    let writes = c.table_end-writes_at.ensures (entry_widths false) read_wide in
+    let gc = rw writes at (c.table_end-gc_at.ensures (entry_widths true) write_wide) in
+    let free = rw gc at (c.table_end-free_at.ensures bucket_widths bucket_wide) in
+    rw (
+      c.sizes_in-sizes.ensures, c.queue_at-reads.ensures, c.queue_at-writes.ensures, c.fifo_at-gc.ensures, c.fifo_at-free.ensures, c.number_at.ensures.0,
+      writes, gc, free,
+      from_reads_lem l, from_writes_lem l, from_gc_lem l, from_free_lem l,
+      head_at l, ← byte_number l 9, ← byte_number l 10,
+    )
