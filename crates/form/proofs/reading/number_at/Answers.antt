@@ -1,5 +1,4 @@
 -- `reading::number_at` meets its contract.
-use Prim.Native.Nat.{◌-◌}
 use mathlib.Core.Path.{◌≡◌, refl, sym, ◌∙◌}
 use native.Mathlib.Omega.{arith}
 use Rattle.form.specs.Numbers.{number_in}

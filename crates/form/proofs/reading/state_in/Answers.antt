@@ -1,11 +1,10 @@
 -- `reading::state_in` meets its contract.
 use mathlib.Core.Bool.{true, false}
-use mathlib.Core.Path.{◌≡◌}
 use native.Mathlib.Omega.{arith}
 use Rattle.state.specs.View.{state_of}
 use Rattle.form.specs.Form.{entry_widths, bucket_widths, state_in}
 use Rattle.form.specs.Rows.{width}
-use Rattle.form.proofs.Places.{read_wide, write_wide, bucket_wide, writes_at, gc_at, free_at, from_reads_lem, from_writes_lem, from_gc_lem, from_free_lem, placed}
+use Rattle.form.proofs.Places.{read_wide, write_wide, bucket_wide, from_reads_lem, from_writes_lem, from_gc_lem, from_free_lem, placed}
 use Rattle.form.proofs.Found.{head_at, byte_number}
 use Rattle.form.proofs.reading.state_in.Goals as goal
 
@@ -61,8 +60,20 @@ returns c = let l = c.args.bytes.now in
     let gc = rw writes at (c.table_end-gc_at.ensures (entry_widths true) write_wide) in
     let free = rw gc at (c.table_end-free_at.ensures bucket_widths bucket_wide) in
     rw (
-      c.sizes_in-sizes.ensures, c.queue_at-reads.ensures, c.queue_at-writes.ensures, c.fifo_at-gc.ensures, c.fifo_at-free.ensures, c.number_at.ensures.0,
-      writes, gc, free,
-      from_reads_lem l, from_writes_lem l, from_gc_lem l, from_free_lem l,
-      head_at l, ← byte_number l 9, ← byte_number l 10,
+      c.sizes_in-sizes.ensures,
+      c.queue_at-reads.ensures,
+      c.queue_at-writes.ensures,
+      c.fifo_at-gc.ensures,
+      c.fifo_at-free.ensures,
+      c.number_at.ensures.0,
+      writes,
+      gc,
+      free,
+      from_reads_lem l,
+      from_writes_lem l,
+      from_gc_lem l,
+      from_free_lem l,
+      head_at l,
+      ← byte_number l 9,
+      ← byte_number l 10,
     )

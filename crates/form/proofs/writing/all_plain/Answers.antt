@@ -1,12 +1,10 @@
 -- `writing::all_plain` meets its contract.
-use Prim.Native.Nat.{◌-◌}
 use mathlib.Core.Path.{refl, sym, ◌∙◌}
 use native.Mathlib.Omega.{arith}
 use borrow.Author.Rules.{rules}
 use Rattle.lists.proofs.Arrays.{rest_more, rest-none}
 use Rattle.lists.specs.Lists.{all}
 use Rattle.queue.specs.View.{no_entry}
-use Rattle.form.specs.Form.{is_plain}
 use Rattle.form.proofs.writing.all_plain.Goals as goal
 
 pub loop-i-init : goal.loop-i-init

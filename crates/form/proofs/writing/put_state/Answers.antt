@@ -1,5 +1,4 @@
 -- `writing::put_state` meets its contract.
-use Prim.Native.Nat.{◌+◌}
 use mathlib.Core.List.{◌++◌}
 use mathlib.Core.Bool.{true, false}
 use mathlib.Core.Path.{◌∙◌}
