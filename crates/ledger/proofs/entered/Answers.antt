@@ -7,9 +7,7 @@ use Rattle.lists.proofs.Turns.{all_more}
 use Rattle.lists.proofs.Tests.{and-true}
 use Rattle.lists.specs.Lists.{all_below}
 use native.Mathlib.Omega.{arith}
-use mathlib.Core.Bool.{true}
 use mathlib.Core.Path.{refl, sym, ◌∙◌}
-use Prim.Native.Nat.{◌-◌}
 use Rattle.ledger.proofs.entered.Goals as goal
 
 pub overflow_mul-start : goal.overflow_mul-start

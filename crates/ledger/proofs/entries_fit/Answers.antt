@@ -5,9 +5,8 @@ use Rattle.lists.proofs.Turns.{all_more}
 use Rattle.lists.proofs.Tests.{and-true}
 use Rattle.lists.specs.Lists.{all_below}
 use native.Mathlib.Omega.{arith}
-use mathlib.Core.Bool.{true}
 use mathlib.Core.Path.{◌≡◌, refl, sym, ap, ◌∙◌}
-use Prim.Native.Nat.{ℕ, ◌*◌, ◌-◌}
+use Prim.Native.Nat.{ℕ, ◌*◌}
 use Rattle.ledger.proofs.entries_fit.Goals as goal
 
 pub overflow_mul-end : goal.overflow_mul-end
