@@ -1,5 +1,5 @@
 -- `frame::frame_request` meets its contract: the operation is the first field of the walk, and the allowance the second.
-use Rattle.std.proofs.Common.{◌≡◌, ℕ, arith, refl, ◌∙◌, sym}
+use Rattle.std.proofs.Common.{◌≡◌, arith, refl, ◌∙◌, sym}
 use Rattle.model.specs.Driving.{bytes_of}
 use Rattle.line.specs.Field.{field_at}
 use Rattle.frame.proofs.Asked.{format-walked, read-walked, write-walked, bare_walked}
