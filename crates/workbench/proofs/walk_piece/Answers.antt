@@ -23,38 +23,8 @@ loop-from-smaller c = omega (arith, c.line_end-end.ensures.lower_bound.0, c.loop
 pub loop-from-preserved : goal.loop-from-preserved
 loop-from-preserved c = c.take_bytes-walk.ensures
 
-pub shape_of-line-else-not-walk : goal.shape_of-line-else-not-walk
-shape_of-line-else-not-walk c = omega (arith, c.loop-from.invariant.line_room_lem, c.requires.line_room_lem)
-
-pub shape_of-flash-else-not-walk : goal.shape_of-flash-else-not-walk
-shape_of-flash-else-not-walk c = omega (arith, c.loop-from.invariant.arrays.flash_length, c.requires.arrays.flash_length)
-
-pub shape_of-spare-else-not-walk : goal.shape_of-spare-else-not-walk
-shape_of-spare-else-not-walk c = omega (arith, c.loop-from.invariant.arrays.spare_length, c.requires.arrays.spare_length)
-
-pub shape_of-disk-else-not-walk : goal.shape_of-disk-else-not-walk
-shape_of-disk-else-not-walk c = omega (arith, c.loop-from.invariant.arrays.disk_length, c.requires.arrays.disk_length)
-
-pub shape_of-out-else-not-walk : goal.shape_of-out-else-not-walk
-shape_of-out-else-not-walk c = omega (arith, c.loop-from.invariant.out_room, c.requires.out_room)
-
 pub returns-else-not-walk : goal.returns-else-not-walk
 returns-else-not-walk c = c.loop-from.invariant
-
-pub shape_of-line-after-loop-from : goal.shape_of-line-after-loop-from
-shape_of-line-after-loop-from c = omega (arith, c.loop-from.invariant.line_room_lem, c.requires.line_room_lem)
-
-pub shape_of-flash-after-loop-from : goal.shape_of-flash-after-loop-from
-shape_of-flash-after-loop-from c = omega (arith, c.loop-from.invariant.arrays.flash_length, c.requires.arrays.flash_length)
-
-pub shape_of-spare-after-loop-from : goal.shape_of-spare-after-loop-from
-shape_of-spare-after-loop-from c = omega (arith, c.loop-from.invariant.arrays.spare_length, c.requires.arrays.spare_length)
-
-pub shape_of-disk-after-loop-from : goal.shape_of-disk-after-loop-from
-shape_of-disk-after-loop-from c = omega (arith, c.loop-from.invariant.arrays.disk_length, c.requires.arrays.disk_length)
-
-pub shape_of-out-after-loop-from : goal.shape_of-out-after-loop-from
-shape_of-out-after-loop-from c = omega (arith, c.loop-from.invariant.out_room, c.requires.out_room)
 
 pub returns-after-loop-from : goal.returns-after-loop-from
 returns-after-loop-from c = c.loop-from.invariant

@@ -23,46 +23,10 @@ pub loop-more-smaller : goal.loop-more-smaller
 loop-more-smaller c = omega (arith, c.if-turns-gt0.true)
 
 pub loop-more-preserved : goal.loop-more-preserved
-loop-more-preserved c = (c.walk_piece-walk.ensures, omega (arith, c.piece-1.given, c.loop-more.invariant.1))
-
-pub shape_of-piece-else-turns-gt0 : goal.shape_of-piece-else-turns-gt0
-shape_of-piece-else-turns-gt0 c = c.loop-more.invariant.1
-
-pub shape_of-line-else-turns-gt0 : goal.shape_of-line-else-turns-gt0
-shape_of-line-else-turns-gt0 c = omega (arith, c.loop-more.invariant.0.line_room_lem, c.requires.line_room_lem)
-
-pub shape_of-flash-else-turns-gt0 : goal.shape_of-flash-else-turns-gt0
-shape_of-flash-else-turns-gt0 c = omega (arith, c.loop-more.invariant.0.arrays.flash_length, c.requires.arrays.flash_length)
-
-pub shape_of-spare-else-turns-gt0 : goal.shape_of-spare-else-turns-gt0
-shape_of-spare-else-turns-gt0 c = omega (arith, c.loop-more.invariant.0.arrays.spare_length, c.requires.arrays.spare_length)
-
-pub shape_of-disk-else-turns-gt0 : goal.shape_of-disk-else-turns-gt0
-shape_of-disk-else-turns-gt0 c = omega (arith, c.loop-more.invariant.0.arrays.disk_length, c.requires.arrays.disk_length)
-
-pub shape_of-out-else-turns-gt0 : goal.shape_of-out-else-turns-gt0
-shape_of-out-else-turns-gt0 c = omega (arith, c.loop-more.invariant.0.out_room, c.requires.out_room)
+loop-more-preserved c = (c.walk_piece-walk.ensures, omega (arith, c.loop-more.invariant.1))
 
 pub returns-else-turns-gt0 : goal.returns-else-turns-gt0
 returns-else-turns-gt0 c = c.loop-more.invariant.0
-
-pub shape_of-piece-after-loop-more : goal.shape_of-piece-after-loop-more
-shape_of-piece-after-loop-more c = c.loop-more.invariant.1
-
-pub shape_of-line-after-loop-more : goal.shape_of-line-after-loop-more
-shape_of-line-after-loop-more c = omega (arith, c.loop-more.invariant.0.line_room_lem, c.requires.line_room_lem)
-
-pub shape_of-flash-after-loop-more : goal.shape_of-flash-after-loop-more
-shape_of-flash-after-loop-more c = omega (arith, c.loop-more.invariant.0.arrays.flash_length, c.requires.arrays.flash_length)
-
-pub shape_of-spare-after-loop-more : goal.shape_of-spare-after-loop-more
-shape_of-spare-after-loop-more c = omega (arith, c.loop-more.invariant.0.arrays.spare_length, c.requires.arrays.spare_length)
-
-pub shape_of-disk-after-loop-more : goal.shape_of-disk-after-loop-more
-shape_of-disk-after-loop-more c = omega (arith, c.loop-more.invariant.0.arrays.disk_length, c.requires.arrays.disk_length)
-
-pub shape_of-out-after-loop-more : goal.shape_of-out-after-loop-more
-shape_of-out-after-loop-more c = omega (arith, c.loop-more.invariant.0.out_room, c.requires.out_room)
 
 pub returns-after-loop-more : goal.returns-after-loop-more
 returns-after-loop-more c = c.loop-more.invariant.0

@@ -1,5 +1,4 @@
-use mathlib.Core.Path.{◌≡◌}
-use lib.ListN.{length}
+use Rattle.std.proofs.Common.{◌≡◌, length}
 use Rattle.workbench.specs.Walk.{Sound}
 use Rattle.workbench.proofs.walk_pieces.Given as goal
 

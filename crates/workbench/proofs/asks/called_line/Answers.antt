@@ -17,9 +17,6 @@ print-length-requires c = let start = c in
     let made = c.make_lent-made.ensures in
     (made.1, omega (arith, start.requires.arrays.1), λ _. simp length-take (omega (arith, made.0, start.requires.arrays.1)))
 
-pub shape_of-flash : goal.shape_of-flash
-shape_of-flash c = omega (arith, c.flash-1.given)
-
 pub returns : goal.returns
 returns c = let start = c in
     let r = start.args.b.recorder in

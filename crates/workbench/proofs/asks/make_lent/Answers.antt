@@ -20,13 +20,13 @@ slice_bounds-make-end-6 c = simp length-take (omega (arith, c.lent-lent.ensures.
 
 pub returns : goal.returns
 unfolding allowance
-returns c =
-    let a = c.args in
+returns c = let start = c in
+    let a = start.args in
     let make = c.make in
     let lent = c.lent-lent.result in
     let left = make.new in
     let f = bytes_of a.line.now in
-    let digits = c.requires.framed.0.digits in
+    let digits = start.requires.framed.0.digits in
     let before = device (take lent.flash a.flash.now) (take lent.spare a.spare.now) (take lent.disk a.disk.now) in
     let after = handed_back (device left.flash left.spare left.disk) (take make.result.read left.buffer) make.result.outcome in (
       omega (arith, make.ensures.read_value, read_short a.z a.line.now digits),

@@ -1,5 +1,6 @@
 -- `workbench::bench::on_frame` meets its contract.
-use borrow.Author.Tests.{not-false}
+
+use Rattle.std.proofs.lemmas.Bool.{not-false}
 use Rattle.workbench.proofs.bench.on_frame.Goals as goal
 
 pub does-requires : goal.does-requires
