@@ -9,22 +9,14 @@ pub fn copy_over(area: &mut [u8], source: &[u8])
     requires { length source.now ≡ length area.old }
     ensures { area.new ≡ source.now }
 {
-    let mut i = 0;
-    while i < source.len() {
-        area[i] = source[i];
-        i += 1;
-    }
+    area.copy_from_slice(source);
 }
 
 // Fills the whole area with one byte.
 pub fn fill(area: &mut [u8], byte: u8)
     ensures { area.new ≡ replicate (length area.old) byte }
 {
-    let mut i = 0;
-    while i < area.len() {
-        area[i] = byte;
-        i += 1;
-    }
+    area.fill(byte);
 }
 
 // Copies the source into the area, from an index on.
@@ -45,16 +37,12 @@ pub fn fill_at(area: &mut [u8], at: usize, count: usize, byte: u8)
     fill(&mut area[at..end], byte);
 }
 
-// Copies a part of the area over another part that it does not meet. With no way out of the loop many bytes are copied at a time.
+// Copies a part of the area over another part that it does not meet.
 pub fn move_within(area: &mut [u8], from: usize, to: usize, count: usize)
     requires count_in_bounds { from + count ≤ length area.old }
     requires count_in_bounds_2 { to + count ≤ length area.old }
     requires fact { (from + count ≤ to) ⊎ (to + count ≤ from) }
     ensures { area.new ≡ splice area.old to (part area.old from count) }
 {
-    let mut i = 0;
-    while i < count {
-        area[to + i] = area[from + i];
-        i += 1;
-    }
+    area.copy_within(from..from + count, to);
 }

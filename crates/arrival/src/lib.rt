@@ -23,9 +23,10 @@ pub fn fits(s: State, b: u16, n: usize) -> bool
     requires n_bound { n ≤ 65536 }
     ensures { result ≡ kept_fits b (pages_for s.sizes n) (places_of s) }
 {
-    let logs = s.writes.find(b);
-    let pages = geometry::pages_for(s.sizes, n);
-    logs.held & (pages <= (logs.blank as usize))
+    match s.writes.find(b) {
+        Some(own) => geometry::pages_for(s.sizes, n) <= own.blank as usize,
+        None => false,
+    }
 }
 
 // The log goes behind the pages of b's Write bucket.
@@ -45,7 +46,7 @@ pub fn append_log(
     ensures lent_2 { Lent s.sizes flash.new spare.new disk.new }
 {
     let z = s.sizes;
-    let own = s.writes.find(b);
+    let own = s.writes.find(b).unwrap();
     let bucket = own.cache as usize;
     let blank = own.blank as usize;
     let epoch = image::used_epoch(z, bucket, spare);

@@ -20,15 +20,10 @@ struct Run {
     stores: usize,
 }
 
-fn start(state: State) -> Run {
-    Run { state, stores: 0 }
-}
-
 fn and_then(run: Run, o: Outcome) -> Run {
-    let state = o.state;
     Run {
-        state,
-        stores: std::num::wrapping_add_usize(run.stores, o.stores),
+        state: o.state,
+        stores: run.stores.wrapping_add(o.stores),
     }
 }
 
@@ -44,9 +39,12 @@ fn sizes(s: usize, b: usize) -> Sizes {
     }
 }
 
-fn formatted(z: Sizes, flash: &mut [u8], spare: &mut [u8], disk: &mut [u8]) -> State {
+fn formatted(z: Sizes, flash: &mut [u8], spare: &mut [u8], disk: &mut [u8]) -> Run {
     let o = format::format(State::unformatted(), z, PLENTY, flash, spare, disk);
-    o.state
+    Run {
+        state: o.state,
+        stores: 0,
+    }
 }
 
 // The i-th of the back-end buckets that take turns.
@@ -57,27 +55,15 @@ fn turn(i: usize, spread: u16) -> u16 {
     (i % 65536) as u16 % spread
 }
 
-// The i-th write.
-fn write_turn(
-    run: Run,
-    i: usize,
-    spread: u16,
-    data: &[u8],
-    flash: &mut [u8],
-    spare: &mut [u8],
-    disk: &mut [u8],
-) -> Run {
-    let o = write::write(
-        run.state,
-        turn(i, spread),
-        0,
-        data,
-        PLENTY,
-        flash,
-        spare,
-        disk,
-    );
-    and_then(run, o)
+// n operations, which are told their number.
+fn repeat<F: FnMut(Run, usize) -> Run>(from: Run, n: usize, mut operate: F) -> Run
+    requires { F.IsAlwaysCallable operate }
+{
+    let mut run = from;
+    for i in 0..n {
+        run = operate(run, i);
+    }
+    run
 }
 
 fn writes(
@@ -89,38 +75,14 @@ fn writes(
     spare: &mut [u8],
     disk: &mut [u8],
 ) -> Run {
-    let mut run = from;
-    let mut i = 0;
-    while i < n {
-        run = write_turn(run, i, spread, data, flash, spare, disk);
-        i += 1;
-    }
-    run
+    repeat(from, n, |run, i| {
+        let back = turn(i, spread);
+        let o = write::write(run.state, back, 0, data, PLENTY, flash, spare, disk);
+        and_then(run, o)
+    })
 }
 
-// The i-th read, from the start of a bucket.
-fn read_turn(
-    run: Run,
-    i: usize,
-    spread: u16,
-    buffer: &mut [u8],
-    flash: &mut [u8],
-    spare: &mut [u8],
-    disk: &mut [u8],
-) -> Run {
-    let o = read::read(
-        run.state,
-        turn(i, spread),
-        0,
-        buffer,
-        PLENTY,
-        flash,
-        spare,
-        disk,
-    );
-    and_then(run, o)
-}
-
+// Reads from the start of a bucket.
 fn reads(
     from: Run,
     n: usize,
@@ -130,33 +92,14 @@ fn reads(
     spare: &mut [u8],
     disk: &mut [u8],
 ) -> Run {
-    let mut run = from;
-    let mut i = 0;
-    while i < n {
-        run = read_turn(run, i, spread, buffer, flash, spare, disk);
-        i += 1;
-    }
-    run
+    repeat(from, n, |run, i| {
+        let back = turn(i, spread);
+        let o = read::read(run.state, back, 0, buffer, PLENTY, flash, spare, disk);
+        and_then(run, o)
+    })
 }
 
-fn drain_all(run: Run, flash: &mut [u8], spare: &mut [u8], disk: &mut [u8]) -> Run {
-    let o = drain::drain(run.state, PLENTY, flash, spare, disk);
-    and_then(run, o)
-}
-
-// A write to each of some back-end buckets, and a drain of them.
-fn drain_turn(
-    run: Run,
-    spread: u16,
-    data: &[u8],
-    flash: &mut [u8],
-    spare: &mut [u8],
-    disk: &mut [u8],
-) -> Run {
-    let full = writes(run, spread as usize, spread, data, flash, spare, disk);
-    drain_all(full, flash, spare, disk)
-}
-
+// Each is a write to each of some back-end buckets, and a drain of them.
 fn drains(
     from: Run,
     n: usize,
@@ -166,18 +109,11 @@ fn drains(
     spare: &mut [u8],
     disk: &mut [u8],
 ) -> Run {
-    let mut run = from;
-    let mut i = 0;
-    while i < n {
-        run = drain_turn(run, spread, data, flash, spare, disk);
-        i += 1;
-    }
-    run
-}
-
-fn recover_turn(run: Run, z: Sizes, flash: &mut [u8], spare: &mut [u8], disk: &mut [u8]) -> Run {
-    let o = recover::recover(run.state, z, PLENTY, flash, spare, disk);
-    and_then(run, o)
+    repeat(from, n, |run, _| {
+        let full = writes(run, usize::from(spread), spread, data, flash, spare, disk);
+        let o = drain::drain(full.state, PLENTY, flash, spare, disk);
+        and_then(full, o)
+    })
 }
 
 fn recoveries(
@@ -188,55 +124,27 @@ fn recoveries(
     spare: &mut [u8],
     disk: &mut [u8],
 ) -> Run {
-    let mut run = from;
-    let mut i = 0;
-    while i < n {
-        run = recover_turn(run, z, flash, spare, disk);
-        i += 1;
-    }
-    run
+    repeat(from, n, |run, _| {
+        let o = recover::recover(run.state, z, PLENTY, flash, spare, disk);
+        and_then(run, o)
+    })
 }
 
-// Writes from the formatted chip on.
-fn written(
+// Logs of back-end bucket 0, each so many bytes behind the one before. They go to cache bucket 0.
+fn logs(
+    from: Run,
     n: usize,
-    z: Sizes,
-    spread: u16,
+    apart: usize,
     data: &[u8],
     flash: &mut [u8],
     spare: &mut [u8],
     disk: &mut [u8],
 ) -> Run {
-    let begun = formatted(z, flash, spare, disk);
-    writes(start(begun), n, spread, data, flash, spare, disk)
-}
-
-// Reads from the formatted chip on.
-fn filled(
-    n: usize,
-    z: Sizes,
-    spread: u16,
-    buffer: &mut [u8],
-    flash: &mut [u8],
-    spare: &mut [u8],
-    disk: &mut [u8],
-) -> Run {
-    let begun = formatted(z, flash, spare, disk);
-    reads(start(begun), n, spread, buffer, flash, spare, disk)
-}
-
-// Drains from the formatted chip on.
-fn drained(
-    n: usize,
-    z: Sizes,
-    spread: u16,
-    data: &[u8],
-    flash: &mut [u8],
-    spare: &mut [u8],
-    disk: &mut [u8],
-) -> Run {
-    let begun = formatted(z, flash, spare, disk);
-    drains(start(begun), n, spread, data, flash, spare, disk)
+    repeat(from, n, |run, i| {
+        let offset = i.wrapping_mul(apart);
+        let o = write::write(run.state, 0, offset, data, PLENTY, flash, spare, disk);
+        and_then(run, o)
+    })
 }
 
 // A format, some operations before, then n of them. bench_c exports these functions to C.
@@ -251,7 +159,8 @@ pub fn bench_writes(
     spare: &mut [u8],
     disk: &mut [u8],
 ) -> usize {
-    let first = written(before, sizes(s, b), spread, data, flash, spare, disk);
+    let begun = formatted(sizes(s, b), flash, spare, disk);
+    let first = writes(begun, before, spread, data, flash, spare, disk);
     let run = writes(first, n, spread, data, flash, spare, disk);
     run.stores
 }
@@ -267,7 +176,8 @@ pub fn bench_reads(
     spare: &mut [u8],
     disk: &mut [u8],
 ) -> usize {
-    let first = filled(before, sizes(s, b), spread, buffer, flash, spare, disk);
+    let begun = formatted(sizes(s, b), flash, spare, disk);
+    let first = reads(begun, before, spread, buffer, flash, spare, disk);
     let run = reads(first, n, spread, buffer, flash, spare, disk);
     run.stores
 }
@@ -283,7 +193,8 @@ pub fn bench_drains(
     spare: &mut [u8],
     disk: &mut [u8],
 ) -> usize {
-    let first = drained(before, sizes(s, b), spread, data, flash, spare, disk);
+    let begun = formatted(sizes(s, b), flash, spare, disk);
+    let first = drains(begun, before, spread, data, flash, spare, disk);
     let run = drains(first, n, spread, data, flash, spare, disk);
     run.stores
 }
@@ -301,66 +212,26 @@ pub fn bench_recoveries(
     disk: &mut [u8],
 ) -> usize {
     let z = sizes(s, b);
-    let image = written(before, z, spread, data, flash, spare, disk);
+    let begun = formatted(z, flash, spare, disk);
+    let image = writes(begun, before, spread, data, flash, spare, disk);
     let run = recoveries(image, n, z, flash, spare, disk);
     run.stores
 }
 
-fn log_at(
-    run: Run,
-    offset: usize,
-    data: &[u8],
-    flash: &mut [u8],
-    spare: &mut [u8],
-    disk: &mut [u8],
-) -> Run {
-    let o = write::write(run.state, 0, offset, data, PLENTY, flash, spare, disk);
-    and_then(run, o)
+// The old one lays the bytes under the logs out, and then the logs, one after the other; the new one copies each byte once.
+#[derive(Clone, Copy)]
+enum Merge {
+    Old,
+    New,
 }
 
-// Logs of back-end bucket 0, each so many bytes behind the one before. They go to cache bucket 0.
-fn logs(
-    from: Run,
-    n: usize,
-    apart: usize,
-    data: &[u8],
-    flash: &mut [u8],
-    spare: &mut [u8],
-    disk: &mut [u8],
-) -> Run {
-    let mut run = from;
-    let mut offset = 0;
-    let mut i = 0;
-    while i < n {
-        run = log_at(run, offset, data, flash, spare, disk);
-        offset = std::num::wrapping_add_usize(offset, apart);
-        i += 1;
-    }
-    run
-}
-
-// The logs on the formatted chip.
-fn logged(
-    n: usize,
-    z: Sizes,
-    apart: usize,
-    data: &[u8],
-    flash: &mut [u8],
-    spare: &mut [u8],
-    disk: &mut [u8],
-) -> Run {
-    let begun = formatted(z, flash, spare, disk);
-    logs(start(begun), n, apart, data, flash, spare, disk)
-}
-
-// By the old merge: the bytes under the logs, and then the logs, one after the other.
 fn merge_old(z: Sizes, from: usize, flash: &[u8], spare: &[u8], under: &[u8], window: &mut [u8])
     requires readable { Readable z flash.now spare.now }
     requires under_len { length under.now ≡ bucket_size z }
     requires window_bound { from + length window.old ≤ bucket_size z }
 {
     let end = from + window.len();
-    area::copy_over(window, &under[from..end]);
+    window.copy_from_slice(&under[from..end]);
     merge::merge_range(z, 0, from, flash, spare, window);
 }
 
@@ -369,33 +240,12 @@ fn merge_new(z: Sizes, from: usize, flash: &[u8], spare: &[u8], under: &[u8], wi
     requires under_len { length under.now ≡ bucket_size z }
     requires window_bound { from + length window.old ≤ bucket_size z }
 {
-    let list = [0u8; 1];
-    overlay::lay_out(z, &list, from, flash, spare, under, window);
-}
-
-fn merge_by(
-    new: bool,
-    z: Sizes,
-    from: usize,
-    flash: &[u8],
-    spare: &[u8],
-    under: &[u8],
-    window: &mut [u8],
-)
-    requires readable { Readable z flash.now spare.now }
-    requires under_len { length under.now ≡ bucket_size z }
-    requires window_bound { from + length window.old ≤ bucket_size z }
-{
-    if new {
-        merge_new(z, from, flash, spare, under, window);
-    } else {
-        merge_old(z, from, flash, spare, under, window);
-    }
+    overlay::lay_out(z, &[0], from, flash, spare, under, window);
 }
 
 fn merges(
     n: usize,
-    new: bool,
+    merge: Merge,
     z: Sizes,
     from: usize,
     flash: &[u8],
@@ -407,17 +257,18 @@ fn merges(
     requires under_len { length under.now ≡ bucket_size z }
     requires window_bound { from + length window.old ≤ bucket_size z }
 {
-    let mut i = 0;
-    while i < n {
-        merge_by(new, z, from, flash, spare, under, window);
-        i += 1;
+    for _ in 0..n {
+        match merge {
+            Merge::Old => merge_old(z, from, flash, spare, under, window),
+            Merge::New => merge_new(z, from, flash, spare, under, window),
+        }
     }
 }
 
 // Merges n times, if the chip passes numbers 1, 2 and 4 and the window lies within the bucket.
 fn merge_chip(
     n: usize,
-    new: bool,
+    merge: Merge,
     z: Sizes,
     from: usize,
     flash: &[u8],
@@ -425,20 +276,37 @@ fn merge_chip(
     disk: &[u8],
     window: &mut [u8],
 ) {
-    if checks::image_refusal(z, flash, spare, disk) != 0 {
+    if checks::check_image(z, flash, spare, disk).is_err() {
         return;
     }
     let size = z.p * z.s;
-    if size < from {
+    if size < from || size - from < window.len() {
         return;
     }
-    if size - from < window.len() {
-        return;
-    }
-    merges(n, new, z, from, flash, spare, &disk[..size], window);
+    merges(n, merge, z, from, flash, spare, &disk[..size], window);
 }
 
-// The window laid out n times over some logs of the data's length, by the old merge.
+// The window laid out n times over some logs of the data's length.
+fn bench_merges(
+    n: usize,
+    merge: Merge,
+    z: Sizes,
+    count: usize,
+    apart: usize,
+    from: usize,
+    data: &[u8],
+    window: &mut [u8],
+    flash: &mut [u8],
+    spare: &mut [u8],
+    disk: &mut [u8],
+) -> usize {
+    let begun = formatted(z, flash, spare, disk);
+    let run = logs(begun, count, apart, data, flash, spare, disk);
+    merge_chip(n, merge, z, from, flash, spare, disk, window);
+    run.stores
+}
+
+// By the old merge. bench_c exports this name and the next: a C caller can pass no `Merge`.
 pub fn bench_old_merges(
     n: usize,
     s: usize,
@@ -452,9 +320,19 @@ pub fn bench_old_merges(
     disk: &mut [u8],
 ) -> usize {
     let z = sizes(s, 1);
-    let run = logged(count, z, apart, data, flash, spare, disk);
-    merge_chip(n, false, z, from, flash, spare, disk, window);
-    run.stores
+    bench_merges(
+        n,
+        Merge::Old,
+        z,
+        count,
+        apart,
+        from,
+        data,
+        window,
+        flash,
+        spare,
+        disk,
+    )
 }
 
 // By the new one.
@@ -471,7 +349,17 @@ pub fn bench_new_merges(
     disk: &mut [u8],
 ) -> usize {
     let z = sizes(s, 1);
-    let run = logged(count, z, apart, data, flash, spare, disk);
-    merge_chip(n, true, z, from, flash, spare, disk, window);
-    run.stores
+    bench_merges(
+        n,
+        Merge::New,
+        z,
+        count,
+        apart,
+        from,
+        data,
+        window,
+        flash,
+        spare,
+        disk,
+    )
 }

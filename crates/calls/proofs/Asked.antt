@@ -1,10 +1,10 @@
 -- What a request says of the line that asks for it.
 use mathlib.Core.Path.{◌≡◌, refl, ap, ◌∙◌}
 use mathlib.Core.Bool.{Bool, true, false}
-use mathlib.Core.List.{List}
+use mathlib.Core.List.{List, []}
 use Prim.Native.Nat.{ℕ, ◌+◌, ◌<◌}
 use native.Mathlib.Omega.{arith}
-use lib.ListN.{length, drop}
+use lib.ListN.{length, take, drop}
 use lib.Dec.{eqb}
 use Rattle.std.specs.Prelude.{if◌then◌else◌}
 use Rattle.lists.specs.Lists.{all}
@@ -16,11 +16,13 @@ use Rattle.model.specs.Driving.{is_digit, bytes_of, operation, allowance, call_o
 use Rattle.model.proofs.Digits.{byte_small}
 use Rattle.state.specs.declared.State.{State}
 use Rattle.state.specs.View.{view_of}
-use Rattle.outcome.specs.Handed.{Handed, handed}
+use Rattle.outcome.specs.declared.Outcome.{Outcome}
+use Rattle.outcome.specs.Handed.{Handed, handed_back, handed}
 use Rattle.frame.specs.declared.Request.{Request}
-use Rattle.frame.specs.declared.Request.TheVariants.{Bad, Format, Read, Write, Erase, Drain, Recover}
+use Rattle.frame.specs.declared.Request.TheVariants.{Format, Read, Write, Erase, Drain, Recover}
 use Rattle.frame.specs.Request.{format_from, read_from, write_from, bare_from, frame_request}
-use Rattle.frame.proofs.Meaning.{call_from, allowance_of, is_bad, frame_call, frame_allowance, frame_good}
+use Rattle.frame.proofs.Meaning.{call_from, allowance_of, frame_call, frame_allowance}
+use Rattle.calls.specs.declared.Made.{Made}
 use Rattle.calls.specs.Arrays.{seen}
 use Rattle.calls.specs.Framed.{Framed}
 
@@ -31,7 +33,6 @@ two_small line i e = omega (arith, byte_small line i e, byte_small line (i + 1) 
 
 -- the fields of a read or a write that stand in narrower numbers, and how many the data of a write are
 abbrev pub Narrow : List ℕ → Request → Type 0
-Narrow f Bad = Unit {0}
 Narrow f (Format n sizes) = Unit {0}
 Narrow f (Read n b off len) = (b < 65536) × (len < 65536)
 Narrow f (Write n b off placed) = (b < 65536) × (placed.length ≡ length (drop placed.at f))
@@ -60,9 +61,6 @@ module _ (line : List ℕ) {r q : Request} (framed : Framed r line) (e : q ≡ r
   asks : q ≡ frame_request (bytes_of line)
   asks = e ∙ framed.asks
 
-  pub asked_good : is_bad q ≡ false
-  asked_good = ap is_bad asks ∙ frame_good (bytes_of line)
-
   asked_call : (z : Sizes) → call_from z (bytes_of line) q ≡ call_of z (bytes_of line)
   asked_call z = ap (call_from z (bytes_of line)) asks ∙ frame_call (bytes_of line) z
 
@@ -77,3 +75,10 @@ module _ (line : List ℕ) {r q : Request} (framed : Framed r line) (e : q ≡ r
       → h ≡ seen (handed s (call (allowance_of q) (call_from z (bytes_of line) q) (view_of s) d))
       → (h ≡ seen (handed s (call (allowance (bytes_of line)) (call_of z (bytes_of line)) (view_of s) d))) × (n ≡ length (lent_buffer (call_of z (bytes_of line))))
   asked_made z s d l m = (m ∙ rw (asked_call z, asked_allowance), l ∙ rw (asked_call z))
+
+  -- a call that reads nothing hands back none of the lent buffer
+  pub unread_made : (z : Sizes) (s : State) (d after : Device) (buffer : List ℕ) {m : Made} {o : Outcome} → (m.outcome ≡ o) × (m.read ≡ 0) → 0 ≡ length (lent_buffer (call_from z (bytes_of line) q))
+      → handed_back after [] o ≡ handed s (call (allowance_of q) (call_from z (bytes_of line) q) (view_of s) d)
+      → (seen (handed_back after (take m.read buffer) m.outcome) ≡ seen (handed s (call (allowance (bytes_of line)) (call_of z (bytes_of line)) (view_of s) d)))
+      × (m.read ≡ length (lent_buffer (call_of z (bytes_of line))))
+  unread_made z s d after buffer un l h = rw (un.0, un.1) (asked_made z s d l (ap seen h))

@@ -117,7 +117,6 @@ pub fn make(
     ensures read_value { result.read ≡ length (lent_buffer (call_of z (bytes_of line.now))) }
 {
     match request {
-        Request::Bad => unread(outcome::refused(model::NO_FRAME, s)),
         Request::Format { allowance, sizes } => {
             unread(format::format(s, sizes, allowance, flash, spare, disk))
         }

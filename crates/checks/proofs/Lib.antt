@@ -3,3 +3,4 @@ pub mod Rest
 pub mod Ranges
 pub mod Opens
 pub mod Backs
+pub mod Passes

@@ -2,11 +2,11 @@
 use Prim.Native.Nat.{ℕ, zero, suc, ◌+◌, ◌≤◌, ◌<◌}
 use mathlib.Core.Path.{◌≡◌, refl, sym, ap, ◌∙◌}
 use mathlib.Core.Bool.{Bool, true, false, ◌&&◌}
-use mathlib.Core.List.{List, [], ◌∷◌, ◌++◌, append-nil}
+use mathlib.Core.List.{List, [], ◌∷◌, ◌++◌, map, append-nil}
 use native.Mathlib.Numerals.{add-one}
 use native.Mathlib.Omega.{arith}
 use native.Mathlib.Decide.{ℕ_discrete}
-use lib.ListN.{length, take, drop, get_or, set, drop_of_length-le}
+use lib.ListN.{length, take, drop, get_or, set, length-map, drop_of_length-le}
 use lib.Seq.{drop-cons, take_all, length-take-le, get_or_at, append_snoc}
 use lib.Dec.{ltb, eqb}
 use borrow.Author.Tests.{eq-eqb, ne_eqb, not-true}
@@ -16,6 +16,7 @@ use Rattle.lists.proofs.Arrays.{done_more}
 use Rattle.lists.proofs.Lent.{copy_more}
 use Rattle.lists.proofs.Counts.{times-member}
 use Rattle.lists.proofs.Orders.{in_any}
+use Rattle.lists.proofs.Filters.{mapped_at}
 use Rattle.classes.specs.Columns.{nowhere, occurring, last_of_each, is_named, all_but}
 
 -- ---- one back-end bucket
@@ -111,6 +112,17 @@ module _ (source area : List ℕ) (same : length area ≡ length source) {out : 
 
       skip : (p : List ℕ) (y : ℕ) (ys : List ℕ) → length p ≡ i → drop (suc i) (p ++ (y ∷ ys)) ≡ ys
       skip p y ys e = rw (← e) (past p y ys)
+
+-- a column that is filled with what a function makes of the order
+module _ (f : ℕ → ℕ) (order area : List ℕ) (same : length area ≡ length order) {out : List ℕ} (i : ℕ) (filled : out ≡ take i (map f order) ++ drop i area) where
+  as_long : length area ≡ length (map f order)
+  as_long = same ∙ sym (length-map order f)
+
+  pub made_more : {x : ℕ} → i < length order → x ≡ f (get_or order i 0) → set out i x ≡ take (i + 1) (map f order) ++ drop (i + 1) area
+  made_more h e = fill_more (map f order) area as_long i filled (omega (arith, as_long)) (e ∙ sym (mapped_at f order i 0 h))
+
+  pub made_end : length order ≤ i → out ≡ map f order
+  made_end h = fill_end (map f order) area as_long i filled (omega (arith, as_long))
 
 -- a column that is filled from its end on
 module _ (source area : List ℕ) (same : length area ≡ length source) {out : List ℕ} (i : ℕ) (filled : out ≡ take (i + 1) area ++ drop (i + 1) source) (h : i < length area) where

@@ -15,7 +15,8 @@ ghost use Rattle.classes.specs.Columns.{nowhere, in_order, is_kind, named, colum
 use fifo::Fifo;
 use model::Sizes;
 
-// No back-end bucket: no B is above it.
+// No back-end bucket: no B is above it. A number and no Option, since `nowhere`, `named` and `column` of specs/Columns are of numbers: whole columns
+// of u16 are compared at once.
 pub const NOWHERE: u16 = 65535;
 
 // What a bucket may be, by itself.
@@ -67,16 +68,13 @@ pub fn buckets(z: Sizes, kind: Kind, spare: &[u8]) -> Fifo
     requires spare_value { body_fits z (spare_only spare.now) ≡ true }
     ensures { list_of result ≡ buckets z (spare_only spare.now) (is_kind z (spare_only spare.now) kind) }
 {
-    let end = geometry::body(z);
     let mut items = [0u8; 256];
     let mut n = 0;
-    let mut c = 0;
-    while c < end {
+    for c in 0..geometry::body(z) {
         if is_a(z, kind, c, spare) {
             items[n] = c as u8;
             n += 1;
         }
-        c += 1;
     }
     Fifo { items, len: n }
 }
@@ -112,11 +110,8 @@ fn fill(z: Sizes, kind: Kind, order: &[u8], spare: &[u8], out: &mut [u16])
     requires out_len { length out.old ≡ length order.now }
     ensures { out.new ≡ column z (spare_only spare.now) (is_kind z (spare_only spare.now) kind) }
 {
-    let mut i = 0;
-    while i < order.len() {
-        let c = order[i] as usize;
-        out[i] = named(z, kind, c, spare);
-        i += 1;
+    for (i, c) in order.iter().enumerate() {
+        out[i] = named(z, kind, *c as usize, spare);
     }
 }
 
@@ -133,12 +128,10 @@ pub fn occurrences(b: u16, column: &[u16]) -> u16
     ensures { result ≡ times b column.now }
 {
     let mut count = 0u16;
-    let mut i = 0;
-    while i < column.len() {
-        if b == column[i] {
+    for x in column {
+        if b == *x {
             count += 1;
         }
-        i += 1;
     }
     count
 }
@@ -164,10 +157,8 @@ fn all_occurring(n: u16, other: &[u16], column: &[u16], out: &mut [u16])
     requires out_len { length out.old ≡ length column.now }
     ensures { out.new ≡ map (occurring n other.now) column.now }
 {
-    let mut i = 0;
-    while i < column.len() {
-        out[i] = occurring(n, other, column[i]);
-        i += 1;
+    for (i, b) in column.iter().enumerate() {
+        out[i] = occurring(n, other, *b);
     }
 }
 
@@ -176,12 +167,8 @@ fn last_of_each(column: &mut [u16])
     requires { length column.old ≤ 256 }
     ensures { column.new ≡ last_of_each column.old }
 {
-    let mut i = 0;
-    while i < column.len() {
-        let b = column[i];
-        let next = i + 1;
-        column[i] = occurring(0, &column[next..], b);
-        i = next;
+    for i in 0..column.len() {
+        column[i] = occurring(0, &column[i + 1..], column[i]);
     }
 }
 
@@ -191,9 +178,7 @@ fn all_but(n: usize, column: &[u16], candidates: &mut [u16])
     ensures { candidates.new ≡ all_but n candidates.old column.now }
 {
     let mut newer = 0;
-    let mut i = column.len();
-    while 0 < i {
-        i -= 1;
+    for i in (0..column.len()).rev() {
         let candidate = candidates[i] != NOWHERE;
         candidates[i] = if candidate & (newer < n) {
             NOWHERE
@@ -265,9 +250,7 @@ pub fn old_column(z: Sizes, order: &[u8], copies: &[u16], spare: &[u8], out: &mu
     requires out_len { length out.old ≡ length order.now }
     ensures { out.new ≡ column z (spare_only spare.now) (is_old_copy z (spare_only spare.now)) }
 {
-    let mut i = 0;
-    while i < order.len() {
-        out[i] = old_back(z, order[i] as usize, copies[i], spare);
-        i += 1;
+    for (i, c) in order.iter().enumerate() {
+        out[i] = old_back(z, *c as usize, copies[i], spare);
     }
 }

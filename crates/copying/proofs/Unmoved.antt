@@ -1,19 +1,20 @@
 -- The bytes of a back-end bucket are the same on every chip and disk that show its own alike; and stores in the ledger, or that erase another bucket, leave them so.
 use Prim.Native.Nat.{ℕ, zero, suc, ◌≤◌, ◌<◌}
 use mathlib.Core.Path.{◌≡◌, refl, sym, ◌∙◌}
-use mathlib.Core.Bool.{Bool, true, false, true≢false}
+use mathlib.Core.Bool.{true, false, true≢false}
 use mathlib.Core.Logic.{◌⊎◌, inl, inr, ◌≢◌}
 use mathlib.Core.List.{List, [], ◌∷◌}
 use native.Mathlib.Omega.{arith}
 use native.Mathlib.Decide.{ℕ_discrete}
 use lib.Dec.{eqb}
-use Rattle.std.specs.Prelude.{if◌then◌else◌}
+use Rattle.std.specs.Prelude.{Option, Some, None, IfSome}
 use Rattle.lists.specs.Lists.{times}
 use Rattle.lists.proofs.Tests.{true_or_false}
 use Rattle.lists.proofs.Counts.{times_self, times_cons}
 use Rattle.model.specs.declared.Sizes.{Sizes}
+use Rattle.model.specs.declared.Entry.{Entry}
 use Rattle.model.specs.Sizes.{Device, body}
-use Rattle.model.specs.Stores.{Store, program, erase, unit, apply, bucket_bytes, disk_bytes}
+use Rattle.model.specs.Stores.{Store, program, erase, unit, apply, disk_bytes}
 use Rattle.model.specs.Image.{bucket_fits, used, body_fits, merge_to, merge}
 use Rattle.model.specs.Recover.{merge_all}
 use Rattle.model.proofs.Tags.{programmed-ff}
@@ -23,7 +24,6 @@ use Rattle.model.proofs.Frames.{Lengths, Fits, lengths_kept, disk_programmed, ta
 use Rattle.model.proofs.Formed.{Formed, formed_of, formed_test}
 use Rattle.model.proofs.FormedKept.{blank-fits}
 use Rattle.model.proofs.Show.{Same, same_refl, same_trans, same_program, same_erase, used-same, epoch_of-same, fits-same, ends_log-same, log_bytes-same}
-use Rattle.queue.specs.declared.Found.{Found}
 use Rattle.meter.specs.Run.{Run, step, run_all}
 use Rattle.copying.specs.Laid.{under_bytes, listed_bytes}
 
@@ -47,15 +47,14 @@ module _ (z : Sizes) (p_low : 1 ≤ z.p) where
         rw (merge-same c (h c (omega (arith, times_cons c c l, times_self c))) base)
         (merge-all-same l (λ x t. h x (omega (arith, times_cons x c l))) (merge z d c base))
 
-    module _ (base : Found) (b : ℕ) (read : base.held ≡ true → Same z d e base.cache) (disk : disk_bytes z e b ≡ disk_bytes z d b) where
+    module _ (base : Option Entry) (b : ℕ) (read : IfSome base (λ copy. Same z d e copy.cache)) (disk : disk_bytes z e b ≡ disk_bytes z d b) where
       under_same : under_bytes z e base b ≡ under_bytes z d base b
       unfolding under_bytes
-      under_same = go base.held refl
+      under_same = go base read
         where
-          go : (t : Bool) → base.held ≡ t
-              → (if t then bucket_bytes z e base.cache else disk_bytes z e b) ≡ (if t then bucket_bytes z d base.cache else disk_bytes z d b)
-          go true h = (read h).bytes_same
-          go false h = disk
+          go : (o : Option Entry) → IfSome o (λ copy. Same z d e copy.cache) → under_bytes z e o b ≡ under_bytes z d o b
+          go (Some copy) same = same.bytes_same
+          go None same = disk
 
       pub listed_same : (list : List ℕ) → ((c : ℕ) → 1 ≤ times c list → Same z d e c) → listed_bytes z e list base b ≡ listed_bytes z d list base b
       listed_same list write = rw under_same (merge-all-same list write (under_bytes z d base b))

@@ -19,8 +19,7 @@ ghost use Rattle.copying.specs.Laid.{listed_bytes, Laid};
 
 use log_pages::Log;
 use meter::Meter;
-use model::Sizes;
-use queue::Found;
+use model::{Entry, Sizes};
 use state::State;
 use steps::Turn;
 
@@ -114,7 +113,7 @@ pub fn fresh_log(
 fn lay_bytes(
     z: Sizes,
     list: &[u8],
-    base: Found,
+    base: Option<Entry>,
     b: u16,
     bucket: usize,
     n: usize,
@@ -126,8 +125,8 @@ fn lay_bytes(
     requires n_bound { n ≤ bucket_size z }
     ensures { flash.new ≡ splice flash.old (bucket * bucket_size z) (take n (listed_bytes z (device flash.old spare.now disk.now) list.now base b)) }
 {
-    if base.held {
-        let c = base.cache as usize;
+    if let Some(copy) = base {
+        let c = copy.cache as usize;
         overlay::lay_within(z, list, c, &disk[..0], bucket, n, flash, spare);
         return;
     }
@@ -142,7 +141,7 @@ fn fill_room(
     z: Sizes,
     target: Log,
     list: &[u8],
-    base: Found,
+    base: Option<Entry>,
     flash: &mut [u8],
     spare: &mut [u8],
     disk: &[u8],
@@ -189,8 +188,6 @@ pub fn copy(
 {
     let room = room_of(s);
     let logs = gather::logs_of(s, b);
-    let list = logs.list;
-    let n = logs.count;
     let base = s.reads.find(b);
     let roomed = s.roomed();
     let state = roomed.take_copy(b);
@@ -200,7 +197,7 @@ pub fn copy(
         erased,
         s.sizes,
         target,
-        &list[..n],
+        logs.as_slice(),
         base,
         flash,
         spare,

@@ -6,6 +6,7 @@ use native.Mathlib.Omega.{arith}
 use native.Mathlib.Decide.{dec_lt}
 use borrow.Author.Tests.{lt-leb, lt-ltb}
 use lib.Dec.{leb}
+use Rattle.std.specs.Char.{is_ascii_hexdigit}
 use Rattle.lists.specs.Lists.{within}
 use Rattle.lists.proofs.Tests.{and_false, within-true}
 use Rattle.model.specs.Driving.{digit_value, is_digit}
@@ -41,7 +42,7 @@ module _ (c : ℕ) where
     stands (no h) (yes k) = behind_numbers k (dec_lt c 65) (dec_lt 70 c)
     stands (no h) (no k) = number (within-true 48 57 c (omega arith) (omega arith)) (omega arith) (omega arith)
 
-  pub digit_test : is_digit c ≡ ((within 48 57 c || within 65 70 c) || within 97 102 c)
+  digit_test : is_digit c ≡ ((within 48 57 c || within 65 70 c) || within 97 102 c)
   unfolding is_digit digit_value
   digit_test = stands
       (λ e h k. rw e (lt-ltb (c - 48) 16 (omega arith)))
@@ -49,6 +50,11 @@ module _ (c : ℕ) where
       (λ e f g h k. rw (e, f, g) (lt-ltb (c - 87) 16 (omega arith)))
       (λ e f g. rw (e, f, g))
       (dec_lt c 48) (dec_lt 57 c)
+
+  -- std's class of such characters
+  pub digit_class : is_digit c ≡ is_ascii_hexdigit c
+  unfolding within
+  digit_class = digit_test
 
   -- without a choice
   pub value_test : is_digit c ≡ true → c % 16 + c / 64 * 9 ≡ digit_value c

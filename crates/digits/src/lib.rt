@@ -2,11 +2,12 @@
 #![tactic(auto)]
 
 ghost use Rattle.std.specs.Prelude.{◌≡◌, true, ◌+◌, ◌*◌, ◌≤◌, ◌<◌, length, get_or, drop};
-ghost use Rattle.lists.specs.Lists.{within, all, part};
+ghost use Rattle.lists.specs.Lists.{all, part};
 ghost use Rattle.model.specs.Spare.{two};
 ghost use Rattle.model.specs.Driving.{digit_value, is_digit, bytes_of};
 
-// The value of a digit, in either letter case; 16 for any other character.
+// The value of a digit, in either letter case; 16 for any other character, as in the book's `digit_value`, by which `bytes_of` has a byte for such
+// characters too: no Option.
 fn digit_value(c: u8) -> u8
     ensures { result ≡ digit_value c }
 {
@@ -18,30 +19,13 @@ fn digit_value(c: u8) -> u8
     }
 }
 
-fn between(low: u8, high: u8, c: u8) -> bool
-    ensures { result ≡ within low high c }
-{
-    (low <= c) & (c <= high)
-}
-
-fn is_digit(c: u8) -> bool
-    ensures { result ≡ is_digit c }
-{
-    let number = between(b'0', b'9', c);
-    let capital = between(b'A', b'F', c);
-    number | capital | between(b'a', b'f', c)
-}
-
 // All are tested, with no way out at the first that is none: such a loop takes many at a time.
 pub fn all_digits(line: &[u8]) -> bool
     ensures { result ≡ all is_digit line.now }
 {
     let mut digits = true;
-    let mut i = 0;
-    while i < line.len() {
-        let digit = is_digit(line[i]);
-        digits = digits & digit;
-        i += 1;
+    for c in line {
+        digits = digits & c.is_ascii_hexdigit();
     }
     digits
 }
@@ -104,9 +88,7 @@ pub fn decode(line: &[u8], from: usize, out: &mut [u8])
     requires out_in_bounds { length out.old ≤ length (drop from (bytes_of line.now)) }
     ensures { out.new ≡ part (bytes_of line.now) from (length out.old) }
 {
-    let mut i = 0;
-    while i < out.len() {
-        out[i] = byte_said(line, from + i);
-        i += 1;
+    for (i, byte) in out.iter_mut().enumerate() {
+        *byte = byte_said(line, from + i);
     }
 }

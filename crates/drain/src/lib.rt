@@ -91,10 +91,8 @@ pub fn drain(
 ) -> Outcome
     ensures { handed_back (device flash.new spare.new disk.new) [] result ≡ handed s (call allowance drain_call (view_of s) (device flash.old spare.old disk.old)) }
 {
-    let number = checks::running_refusal(s, flash, spare, disk);
-    if number == 0 {
-        drain_whole(s, allowance, flash, spare, disk)
-    } else {
-        outcome::refused(number, s)
+    match checks::check_running(s, flash, spare, disk) {
+        Ok(()) => drain_whole(s, allowance, flash, spare, disk),
+        Err(refusal) => outcome::refused(refusal.number(), s),
     }
 }

@@ -10,15 +10,14 @@ use Rattle.model.specs.declared.Sizes.{Sizes}
 use Rattle.model.specs.Sizes.{limits}
 use Rattle.model.specs.Driving.{Recorder, bytes_of, operation, format_sizes, line_fits, too_large, no_call, format_line, call_line, on_line}
 use Rattle.frame.specs.declared.Request.{Request}
-use Rattle.frame.specs.declared.Request.TheVariants.{Bad, Format, Read, Write, Erase, Drain, Recover}
-use Rattle.frame.specs.Request.{request_of, is_format}
-use Rattle.frame.proofs.Meaning.{is_bad}
+use Rattle.frame.specs.declared.Request.TheVariants.{Format, Read, Write, Erase, Drain, Recover}
+use Rattle.frame.specs.Request.{frame_request, is_format}
 use Rattle.calls.specs.Arrays.{Held}
 use Rattle.drive.specs.Recorder.{Ready, called_line}
 use Rattle.drive.specs.Asking.{format_unmade, unmade, sizes_asked}
 use Rattle.drive.proofs.Held.{held_sizes}
-use Rattle.drive.proofs.Requests.{asked_fits, asked_operation, asked_sizes, asked_bad}
-use Rattle.drive.proofs.Ways.{bad_line, format_asked, call_asked, limits_broken, beyond_arrays, format_called, unformatted, call_called}
+use Rattle.drive.proofs.Requests.{asked_operation, asked_sizes}
+use Rattle.drive.proofs.Ways.{format_asked, call_asked, limits_broken, beyond_arrays, format_called, unformatted, call_called}
 
 -- ---- a call that is made is made at sizes that the arrays have room for
 
@@ -41,7 +40,6 @@ module _ (t : Bool) (kept : Sizes) (ready : Ready t kept) where
 
   pub asked_held : (q : Request) → unmade t q ≡ 0 → Held (sizes_asked q kept)
   unfolding unmade sizes_asked
-  asked_held Bad k = absurd (omega (arith, k))
   asked_held (Format n z) k = format_held z k
   asked_held (Read n b off len) k = kept_held k
   asked_held (Write n b off placed) k = kept_held k
@@ -51,7 +49,7 @@ module _ (t : Bool) (kept : Sizes) (ready : Ready t kept) where
 
 -- ---- what a line does
 
-module _ (r : Recorder) (line : List ℕ) where
+module _ (r : Recorder) (line : List ℕ) (fits : line_fits line ≡ true) where
   abbrev f : List ℕ
   f = bytes_of line
 
@@ -61,12 +59,11 @@ module _ (r : Recorder) (line : List ℕ) where
 
   -- the call is made
   abbrev Made : Request → Type 0
-  Made q = unmade r.formatted q ≡ 0 → (line_fits line ≡ true) × (on_line r line ≡ called_line (sizes_asked q r.sizes) (is_format q) r f)
+  Made q = unmade r.formatted q ≡ 0 → on_line r line ≡ called_line (sizes_asked q r.sizes) (is_format q) r f
 
-  module _ (n : ℕ) (z : Sizes) (e : Format n z ≡ request_of line) where
-    format_way : (line_fits line ≡ true) × (on_line r line ≡ format_line r f)
-    unfolding is_bad
-    format_way = let fits = asked_fits line (Format n z) e refl in (fits, format_asked r line fits (eq-eqb (operation f) 1 (asked_sizes line n z e).0))
+  module _ (n : ℕ) (z : Sizes) (e : Format n z ≡ frame_request f) where
+    format_way : on_line r line ≡ format_line r f
+    format_way = format_asked r line fits (eq-eqb (operation f) 1 (asked_sizes line n z e).0)
 
     format-unmade : Unmade (Format n z)
     unfolding unmade format_unmade
@@ -76,8 +73,8 @@ module _ (r : Recorder) (line : List ℕ) where
         own = (asked_sizes line n z e).1
 
         go : (l : Bool) → limits z ≡ l → (t : Bool) → too_large z ≡ t → Unmade (Format n z)
-        go false h t g k = rw h (format_way.1 ∙ limits_broken r f (ap limits (sym own) ∙ h))
-        go true h true g k = rw (h, g) (format_way.1 ∙ beyond_arrays r f (ap limits (sym own) ∙ h) (ap too_large (sym own) ∙ g))
+        go false h t g k = rw h (format_way ∙ limits_broken r f (ap limits (sym own) ∙ h))
+        go true h true g k = rw (h, g) (format_way ∙ beyond_arrays r f (ap limits (sym own) ∙ h) (ap too_large (sym own) ∙ g))
         go true h false g k = absurd (k (rw (h, g)))
 
     format-made : Made (Format n z)
@@ -90,46 +87,42 @@ module _ (r : Recorder) (line : List ℕ) where
         go : (l : Bool) → limits z ≡ l → (t : Bool) → too_large z ≡ t → Made (Format n z)
         go false h t g k = absurd (omega (arith, rw h at k))
         go true h true g k = absurd (omega (arith, rw (h, g) at k))
-        go true h false g k = (
-          format_way.0,
-          format_way.1 ∙ (format_called r f (asked_sizes line n z e).0 (ap limits (sym own) ∙ h) (ap too_large (sym own) ∙ g) ∙ ap (λ (y : Sizes). called_line y true r f) (sym own)),
-        )
+        go true h false g k =
+            format_way ∙ (format_called r f (asked_sizes line n z e).0 (ap limits (sym own) ∙ h) (ap too_large (sym own) ∙ g) ∙ ap (λ (y : Sizes). called_line y true r f) (sym own))
 
   -- the lines 02 to 06
-  module _ (q : Request) (e : q ≡ request_of line) (good : is_bad q ≡ false) (other : is_format q ≡ false) where
-    call_way : (line_fits line ≡ true) × (on_line r line ≡ call_line r f)
-    call_way = let fits = asked_fits line q e good in (fits, call_asked r line fits (asked_operation line q e good ∙ other))
+  module _ (q : Request) (e : q ≡ frame_request f) (other : is_format q ≡ false) where
+    call_way : on_line r line ≡ call_line r f
+    call_way = call_asked r line fits (asked_operation line e ∙ other)
 
     call-unmade : (◌≡◌ {A = ℕ} (if r.formatted then 0 else 3) 0 → ⊥) → on_line r line ≡ no_call (if r.formatted then 0 else 3) r
     call-unmade = go r.formatted refl
       where
         go : (t : Bool) → r.formatted ≡ t → (◌≡◌ {A = ℕ} (if t then 0 else 3) 0 → ⊥) → on_line r line ≡ no_call (if t then 0 else 3) r
         go true h k = absurd (k refl)
-        go false h k = call_way.1 ∙ unformatted r f h
+        go false h k = call_way ∙ unformatted r f h
 
-    call-made : ◌≡◌ {A = ℕ} (if r.formatted then 0 else 3) 0 → (line_fits line ≡ true) × (on_line r line ≡ called_line r.sizes false r f)
+    call-made : ◌≡◌ {A = ℕ} (if r.formatted then 0 else 3) 0 → on_line r line ≡ called_line r.sizes false r f
     call-made = go r.formatted refl
       where
-        go : (t : Bool) → r.formatted ≡ t → ◌≡◌ {A = ℕ} (if t then 0 else 3) 0 → (line_fits line ≡ true) × (on_line r line ≡ called_line r.sizes false r f)
-        go true h k = (call_way.0, call_way.1 ∙ call_called r f h)
+        go : (t : Bool) → r.formatted ≡ t → ◌≡◌ {A = ℕ} (if t then 0 else 3) 0 → on_line r line ≡ called_line r.sizes false r f
+        go true h k = call_way ∙ call_called r f h
         go false h k = absurd (omega (arith, k))
 
-  pub line_unmade : (q : Request) → q ≡ request_of line → Unmade q
-  unfolding unmade is_bad is_format
-  line_unmade Bad e = λ _. bad_line r line (asked_bad line e)
+  pub line_unmade : (q : Request) → q ≡ frame_request f → Unmade q
+  unfolding unmade is_format
   line_unmade (Format n z) e = format-unmade n z e
-  line_unmade (Read n b off len) e = call-unmade (Read n b off len) e refl refl
-  line_unmade (Write n b off placed) e = call-unmade (Write n b off placed) e refl refl
-  line_unmade (Erase n) e = call-unmade (Erase n) e refl refl
-  line_unmade (Drain n) e = call-unmade (Drain n) e refl refl
-  line_unmade (Recover n) e = call-unmade (Recover n) e refl refl
+  line_unmade (Read n b off len) e = call-unmade (Read n b off len) e refl
+  line_unmade (Write n b off placed) e = call-unmade (Write n b off placed) e refl
+  line_unmade (Erase n) e = call-unmade (Erase n) e refl
+  line_unmade (Drain n) e = call-unmade (Drain n) e refl
+  line_unmade (Recover n) e = call-unmade (Recover n) e refl
 
-  pub line_made : (q : Request) → q ≡ request_of line → Made q
-  unfolding unmade sizes_asked is_bad is_format
-  line_made Bad e = λ k. absurd (omega (arith, k))
+  pub line_made : (q : Request) → q ≡ frame_request f → Made q
+  unfolding unmade sizes_asked is_format
   line_made (Format n z) e = format-made n z e
-  line_made (Read n b off len) e = call-made (Read n b off len) e refl refl
-  line_made (Write n b off placed) e = call-made (Write n b off placed) e refl refl
-  line_made (Erase n) e = call-made (Erase n) e refl refl
-  line_made (Drain n) e = call-made (Drain n) e refl refl
-  line_made (Recover n) e = call-made (Recover n) e refl refl
+  line_made (Read n b off len) e = call-made (Read n b off len) e refl
+  line_made (Write n b off placed) e = call-made (Write n b off placed) e refl
+  line_made (Erase n) e = call-made (Erase n) e refl
+  line_made (Drain n) e = call-made (Drain n) e refl
+  line_made (Recover n) e = call-made (Recover n) e refl

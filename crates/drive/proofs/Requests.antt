@@ -4,7 +4,7 @@ use mathlib.Core.Bool.{Bool, true, false}
 use mathlib.Core.List.{List}
 use Prim.Native.Nat.{ℕ, ◌≤◌}
 use native.Mathlib.Omega.{arith}
-use borrow.Author.Tests.{eqb-true, leb-true, not-true, not-false}
+use borrow.Author.Tests.{eqb-true, leb-true}
 use lib.ListN.{length, drop, replicate, length-replicate}
 use lib.Dec.{eqb}
 use Rattle.std.specs.Prelude.{if◌then◌else◌}
@@ -16,58 +16,48 @@ use Rattle.model.specs.Calls.{format_call, read_call, write_call, erase_call, dr
 use Rattle.model.specs.Driving.{is_digit, bytes_of, operation, allowance, format_sizes, line_fits, call_of}
 use Rattle.model.proofs.Digits.{bytes_length}
 use Rattle.frame.specs.declared.Request.{Request}
-use Rattle.frame.specs.declared.Request.TheVariants.{Bad, Format, Read, Write, Erase, Drain, Recover}
-use Rattle.frame.specs.Request.{request_of, is_format}
+use Rattle.frame.specs.declared.Request.TheVariants.{Format, Read, Write, Erase, Drain, Recover}
+use Rattle.frame.specs.Request.{frame_request, is_format}
 use Rattle.frame.proofs.Asked.{format_asked}
 use Rattle.frame.proofs.Fits.{fits_digits}
-use Rattle.frame.proofs.Meaning.{is_bad, frame_format, line_bad, line_asks}
+use Rattle.frame.proofs.Meaning.{frame_format}
 use Rattle.calls.specs.Framed.{Framed}
 use Rattle.calls.proofs.Asked.{two_small}
 use Rattle.drive.specs.Asking.{unmade, sizes_asked}
 
--- a line that is not bad fits, and is a format where its request is
-module _ (line : List ℕ) (q : Request) (e : q ≡ request_of line) (good : is_bad q ≡ false) where
-  pub asked_fits : line_fits line ≡ true
-  asked_fits = not-false (line_fits line) (sym (line_bad line) ∙ (ap is_bad (sym e) ∙ good))
-
+module _ (line : List ℕ) {q : Request} (e : q ≡ frame_request (bytes_of line)) where
+  -- a line is a format where its request is
   pub asked_operation : eqb (operation (bytes_of line)) 1 ≡ is_format q
-  asked_operation = sym (frame_format (bytes_of line)) ∙ ap is_format (sym (e ∙ line_asks line asked_fits))
+  asked_operation = sym (frame_format (bytes_of line)) ∙ ap is_format (sym e)
+
+  -- a line that fits is a frame with its request
+  pub asked_framed : line_fits line ≡ true → Framed q line
+  unfolding line_fits
+  asked_framed fits = record {
+    digits = fits_digits line fits;
+    short = omega (arith, leb-true (length line) 512 (every_at _ fits 2), bytes_length line);
+    asks = e;
+  }
 
 -- a format's sizes
-pub asked_sizes : (line : List ℕ) (n : ℕ) (z : Sizes) → Format n z ≡ request_of line → (operation (bytes_of line) ≡ 1) × (z ≡ format_sizes (bytes_of line))
-unfolding is_bad is_format
+pub asked_sizes : (line : List ℕ) (n : ℕ) (z : Sizes) → Format n z ≡ frame_request (bytes_of line) → (operation (bytes_of line) ≡ 1) × (z ≡ format_sizes (bytes_of line))
+unfolding is_format
 asked_sizes line n z e =
     let f = bytes_of line in
-    let fits = asked_fits line (Format n z) e refl in
-    let one : operation f ≡ 1 = eqb-true (operation f) 1 (asked_operation line (Format n z) e refl) in
-    let same : Format n z ≡ Format (allowance f) (format_sizes f) = e ∙ (line_asks line fits ∙ format_asked f one) in
+    let one : operation f ≡ 1 = eqb-true (operation f) 1 (asked_operation line e) in
+    let same : Format n z ≡ Format (allowance f) (format_sizes f) = e ∙ format_asked f one in
     (one, cc)
 
--- a line that fits is a frame with its request
-pub asked_framed : (line : List ℕ) {q : Request} → line_fits line ≡ true → q ≡ request_of line → Framed q line
-unfolding line_fits
-asked_framed line fits e = record {
-  digits = fits_digits line fits;
-  short = omega (arith, leb-true (length line) 512 (every_at _ fits 2), bytes_length line);
-  asks = e ∙ line_asks line fits;
-}
-
--- no line is bad but those of F0
-pub asked_bad : (line : List ℕ) → Bad ≡ request_of line → line_fits line ≡ false
-unfolding is_bad
-asked_bad line e = not-true (line_fits line) (sym (line_bad line) ∙ ap is_bad (sym e))
-
--- a request that is neither bad nor a format
-pub other_request : (t : Bool) (kept : Sizes) (q : Request) → (q ≡ Bad → ⊥) → ((n : ℕ) (z : Sizes) → q ≡ Format n z → ⊥)
+-- a request that is no format
+pub other_request : (t : Bool) (kept : Sizes) (q : Request) → ((n : ℕ) (z : Sizes) → q ≡ Format n z → ⊥)
     → (unmade t q ≡ (if t then 0 else 3)) × (sizes_asked q kept ≡ kept) × (is_format q ≡ false)
 unfolding unmade sizes_asked is_format
-other_request t kept Bad b f = absurd (b refl)
-other_request t kept (Format n z) b f = absurd (f n z refl)
-other_request t kept (Read n b off len) _ _ = (refl, refl, refl)
-other_request t kept (Write n b off placed) _ _ = (refl, refl, refl)
-other_request t kept (Erase n) _ _ = (refl, refl, refl)
-other_request t kept (Drain n) _ _ = (refl, refl, refl)
-other_request t kept (Recover n) _ _ = (refl, refl, refl)
+other_request t kept (Format n z) f = absurd (f n z refl)
+other_request t kept (Read n b off len) _ = (refl, refl, refl)
+other_request t kept (Write n b off placed) _ = (refl, refl, refl)
+other_request t kept (Erase n) _ = (refl, refl, refl)
+other_request t kept (Drain n) _ = (refl, refl, refl)
+other_request t kept (Recover n) _ = (refl, refl, refl)
 
 -- the bytes that a line may read
 pub read_short : (z : Sizes) (line : List ℕ) → all is_digit line ≡ true → length (lent_buffer (call_of z (bytes_of line))) ≤ 65535

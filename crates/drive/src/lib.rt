@@ -3,18 +3,19 @@
 
 ghost use Rattle.std.specs.Prelude.{◌≡◌, true, [], ◌+◌, ◌*◌, ◌<◌, ◌≤◌, length, take, if◌then◌else◌};
 ghost use Rattle.model.specs.declared.Answer.TheVariants.{Done};
+ghost use Rattle.model.specs.Tests.{number, number_of};
 ghost use Rattle.model.specs.Calls.{is_done};
 ghost use Rattle.model.specs.Driving.{bytes_of, line_fits, too_large, shown, printed, on_line};
 ghost use Rattle.model.proofs.Limits.{Limits};
 ghost use Rattle.geometry.specs.Geometry.{device};
-ghost use Rattle.frame.specs.Request.{request_of, is_format};
+ghost use Rattle.frame.specs.Request.{frame_request, is_format};
 ghost use Rattle.outcome.specs.Handed.{handed_back};
 ghost use Rattle.calls.specs.Arrays.{Arrays, Held};
 ghost use Rattle.drive.specs.Recorder.{recorder_of, printed_of, outcome_of, fresh, Ready, Room, after, called_line};
 ghost use Rattle.drive.specs.Asking.{format_unmade, unmade, sizes_asked};
 
 use frame::Request;
-use model::{Answer, Sizes};
+use model::{Answer, Refusal, Sizes};
 use outcome::Outcome;
 use state::State;
 
@@ -59,12 +60,7 @@ pub struct Printed {
 pub fn is_done(answer: Answer) -> bool
     ensures { result ≡ is_done answer }
 {
-    match answer {
-        Answer::Done => true,
-        Answer::Idle => false,
-        Answer::Cut => false,
-        Answer::Refused(number) => false,
-    }
+    matches!(answer, Answer::Done)
 }
 
 // "answer byte, stores (2), bytes read if Done": "all but Done and Cut print stores 0000".
@@ -73,8 +69,7 @@ pub fn print(o: Outcome, bytes: &[u8], out: &mut [u8]) -> usize
     ensures out_after { take result out.new ≡ printed (outcome_of (handed_back (device [] [] []) bytes.now o)) }
     ensures upper_bound { result ≤ length out.new }
 {
-    let answer = o.answer;
-    match answer {
+    match o.answer {
         Answer::Done => text::show(model::DONE, o.stores, bytes, out),
         Answer::Idle => text::show(model::IDLE, 0, b"", out),
         Answer::Cut => text::show(model::CUT, o.stores, b"", out),
@@ -82,13 +77,13 @@ pub fn print(o: Outcome, bytes: &[u8], out: &mut [u8]) -> usize
     }
 }
 
-// A line that makes no call.
-fn no_call(answer: u8, r: Recorder, out: &mut [u8]) -> Printed
+// A line that makes no call prints why.
+fn no_call(refusal: Refusal, r: Recorder, out: &mut [u8]) -> Printed
     requires { 7 ≤ length out.old }
-    ensures recorder_value { (result.recorder ≡ r) × (take result.length out.new ≡ shown answer 0 []) }
+    ensures recorder_value { (result.recorder ≡ r) × (take result.length out.new ≡ shown (number_of refusal) 0 []) }
     ensures length_in_bounds { result.length ≤ length out.new }
 {
-    let length = text::show(answer, 0, b"", out);
+    let length = text::show(refusal.number(), 0, b"", out);
     Printed {
         recorder: r,
         length,
@@ -137,7 +132,7 @@ fn called_line(
     disk: &mut [u8],
     out: &mut [u8],
 ) -> Printed
-    requires line_value { (line_fits line.now ≡ true) × (request ≡ request_of line.now) }
+    requires line_value { (line_fits line.now ≡ true) × (request ≡ frame_request (bytes_of line.now)) }
     requires arrays { Arrays flash.old spare.old disk.old × Room buffer.old out.old × Held z }
     ensures out_after { printed_of result flash.new spare.new disk.new out.new ≡ called_line z format (recorder_of r flash.old spare.old disk.old) (bytes_of line.now) }
     ensures length_in_bounds { result.length ≤ length out.new }
@@ -153,45 +148,47 @@ fn called_line(
 }
 
 // "F1 for valid sizes", so after number 1.
-fn format_unmade(z: Sizes) -> u8
-    ensures { result ≡ format_unmade z }
+fn check_format(z: Sizes) -> Result<(), Refusal>
+    ensures { number result ≡ format_unmade z }
 {
     if !geometry::limits(z) {
-        return 1;
+        return Err(Refusal::Limits);
     }
-    if too_large(z) { model::NO_ROOM } else { 0 }
+    if too_large(z) {
+        return Err(Refusal::NoRoom);
+    }
+    Ok(())
 }
 
-// What a line asks for: the number printed of it if it makes no call, or 0; the sizes of its call; whether that is a format.
+// What a line asks for: whether it makes its call, or what is printed of it instead; the sizes of its call; whether that is a format.
 #[derive(Clone, Copy)]
 pub struct Asked {
-    pub unmade: u8,
+    pub makes: Result<(), Refusal>,
     pub sizes: Sizes,
     pub format: bool,
 }
 
-// "F0, before all else"; "02 to 06 before a format that was Done print 030000". A format has sizes of its own.
+// "02 to 06 before a format that was Done print 030000". A format has sizes of its own.
 pub fn asks(formatted: bool, kept: Sizes, request: Request) -> Asked
-    ensures { (result.unmade ≡ unmade formatted request) × (result.sizes ≡ sizes_asked request kept) × (result.format ≡ is_format request) }
+    ensures { (number result.makes ≡ unmade formatted request) × (result.sizes ≡ sizes_asked request kept) × (result.format ≡ is_format request) }
 {
     match request {
-        Request::Bad => Asked {
-            unmade: model::NO_FRAME,
-            sizes: kept,
-            format: false,
-        },
         Request::Format { allowance, sizes } => {
-            let unmade = format_unmade(sizes);
+            let makes = check_format(sizes);
             Asked {
-                unmade,
+                makes,
                 sizes,
                 format: true,
             }
         }
         _ => {
-            let unmade = if formatted { 0 } else { 3 };
+            let makes = if formatted {
+                Ok(())
+            } else {
+                Err(Refusal::NotRunning)
+            };
             Asked {
-                unmade,
+                makes,
                 sizes: kept,
                 format: false,
             }
@@ -199,7 +196,7 @@ pub fn asks(formatted: bool, kept: Sizes, request: Request) -> Asked
     }
 }
 
-// The line's text stands at the start of `out`. All calls are made at one place, so that the recorder is handed on without a copy of it.
+// The line's text stands at the start of `out`. "F0, before all else". All calls are made at one place, so that the recorder is handed on without a copy of it.
 pub fn on_line(
     r: Recorder,
     line: &[u8],
@@ -213,22 +210,23 @@ pub fn on_line(
     ensures out_after { printed_of result flash.new spare.new disk.new out.new ≡ on_line (recorder_of r flash.old spare.old disk.old) line.now }
     ensures ready { Ready result.recorder.formatted result.recorder.sizes × (result.length ≤ length out.new) }
 {
-    let request = frame::request_of(line);
+    let Some(request) = frame::request_of(line) else {
+        return no_call(Refusal::NoFrame, r, out);
+    };
     let asked = asks(r.formatted, r.sizes, request);
-    if asked.unmade != 0 {
-        return no_call(asked.unmade, r, out);
+    match asked.makes {
+        Ok(()) => called_line(
+            r,
+            asked.sizes,
+            asked.format,
+            request,
+            line,
+            buffer,
+            flash,
+            spare,
+            disk,
+            out,
+        ),
+        Err(refusal) => no_call(refusal, r, out),
     }
-    let z = asked.sizes;
-    called_line(
-        r,
-        z,
-        asked.format,
-        request,
-        line,
-        buffer,
-        flash,
-        spare,
-        disk,
-        out,
-    )
 }

@@ -51,10 +51,8 @@ pub fn erase_step(
 ) -> Outcome
     ensures { handed_back (device flash.new spare.new disk.new) [] result ≡ handed s (call allowance erase_call (view_of s) (device flash.old spare.old disk.old)) }
 {
-    let number = checks::running_refusal(s, flash, spare, disk);
-    if number == 0 {
-        erase_head(s, allowance, flash, spare, disk)
-    } else {
-        outcome::refused(number, s)
+    match checks::check_running(s, flash, spare, disk) {
+        Ok(()) => erase_head(s, allowance, flash, spare, disk),
+        Err(refusal) => outcome::refused(refusal.number(), s),
     }
 }

@@ -29,10 +29,8 @@ impl Fifo {
         ensures { list_of result ≡ below count }
     {
         let mut items = [0u8; 256];
-        let mut bucket = 0;
-        while bucket < count {
+        for bucket in 0..count {
             items[bucket] = bucket as u8;
-            bucket += 1;
         }
         Fifo { items, len: count }
     }
@@ -49,20 +47,17 @@ impl Fifo {
     pub fn used(self) -> usize
         ensures { (result ≡ length (list_of self)) × (result ≤ 256) }
     {
-        let len = self.len;
-        if len < 256 { len } else { 256 }
+        self.len.min(256)
     }
 
     // One more at the back. A full queue stays as it is.
     pub fn push(mut self, c: u8) -> Self
         ensures { list_of result ≡ joined 256 (list_of self) (c ∷ []) }
     {
-        let at = self.len;
-        if 256 <= at {
-            return self;
+        if self.len < 256 {
+            self.items[self.len] = c;
+            self.len += 1;
         }
-        self.items[at] = c;
-        self.len = at + 1;
         self
     }
 
@@ -70,84 +65,41 @@ impl Fifo {
     pub fn head(self) -> u8
         ensures { result ≡ head (list_of self) }
     {
-        let len = self.len;
-        if len == 0 {
-            return 0;
-        }
-        self.items[0]
+        if self.len == 0 { 0 } else { self.items[0] }
     }
 
-    // All but the first bucket.
-    pub fn rest(self) -> Self
+    // All but the first bucket. Moved within one array: two would be copied.
+    pub fn rest(mut self) -> Self
         ensures { list_of result ≡ drop 1 (list_of self) }
     {
         let n = self.used();
-        let items = self.items;
         if n == 0 {
             return self;
         }
-        let next = shifted(items, n - 1);
-        Fifo {
-            items: next,
-            len: n - 1,
-        }
+        self.items.copy_within(1..n, 0);
+        self.len = n - 1;
+        self
     }
 
     // The other queue's buckets behind these.
-    pub fn append(self, other: Fifo) -> Self
+    pub fn append(mut self, other: Fifo) -> Self
         requires { length (list_of self) + length (list_of other) ≤ 256 }
         ensures { list_of result ≡ list_of self ++ list_of other }
     {
         let n = self.used();
         let m = other.used();
-        let items = self.items;
-        let more = other.items;
-        let next = copied(items, n, more, 0, m);
-        Fifo {
-            items: next,
-            len: n + m,
-        }
+        self.items[n..n + m].copy_from_slice(&other.items[..m]);
+        self.len = n + m;
+        self
     }
 
     // The same queue with zeros in the unused places.
-    pub fn cleared(self) -> Self
+    pub fn cleared(mut self) -> Self
         ensures { result ≡ fifo_of (list_of self) }
     {
         let n = self.used();
-        let items = self.items;
-        let zeros = [0; 256];
-        let next = copied(zeros, 0, items, 0, n);
-        Fifo {
-            items: next,
-            len: n,
-        }
+        self.items[n..].fill(0);
+        self.len = n;
+        self
     }
-}
-
-// Each of the first n takes the next one's item. Within one array: two would be copied.
-fn shifted(items: [u8; 256], n: usize) -> [u8; 256]
-    requires { n < 256 }
-    ensures { result ≡ paste items 0 (drop 1 items) n }
-{
-    let mut a = items;
-    let mut i = 0;
-    while i < n {
-        a[i] = a[i + 1];
-        i += 1;
-    }
-    a
-}
-
-// `into` with n items of `from`, taken from the index `start` on, in the places from `at` on.
-fn copied(into: [u8; 256], at: usize, from: [u8; 256], start: usize, n: usize) -> [u8; 256]
-    requires { (at + n ≤ 256) × (start + n ≤ 256) }
-    ensures { result ≡ paste into at (drop start from) n }
-{
-    let mut a = into;
-    let mut i = 0;
-    while i < n {
-        a[at + i] = from[start + i];
-        i += 1;
-    }
-    a
 }

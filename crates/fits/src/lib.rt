@@ -87,12 +87,7 @@ fn numbers_fit(s: State, spare: &[u8]) -> bool
 fn marks_fit(reads: queue::Queue, writes: queue::Queue) -> bool
     ensures { result ≡ all (mark_fits (entries_of reads)) (entries_of writes) }
 {
-    let n = writes.used();
-    let items = writes.items;
-    let mut i = 0;
-    while i < n {
-        let e = items[i];
-        i += 1;
+    for e in &writes.items[..writes.used()] {
         if e.marked {
             if !reads.holds(e.back) {
                 return false;
@@ -102,66 +97,17 @@ fn marks_fit(reads: queue::Queue, writes: queue::Queue) -> bool
     true
 }
 
-// The epoch of a bucket, or 0. Its head is blank if it has no kind, and the bytes of a spoiled one mean nothing.
-fn epoch_there(z: Sizes, c: usize, spare: &[u8]) -> u32
-    requires chip { Chip z spare.now }
-    requires c_lt_c { c < z.c }
-    requires c_value { blank (head_tag z (spare_only spare.now) c) ≡ eqb (kind (head_tag z (spare_only spare.now) c)) 255 }
-    ensures { result ≡ epoch_of z (spare_only spare.now) c }
-{
-    let k = image::head(z, c, spare);
-    let page = c * z.p + k;
-    let kind = spare::kind_at(spare, page);
-    if (kind != spare::NO_KIND) & (kind != spare::SPOILED_KIND) {
-        spare::epoch_at(spare, page)
-    } else {
-        0
-    }
-}
-
-fn larger(a: u64, b: u64) -> u64
-    ensures { result ≡ max a b }
-{
-    if a < b { b } else { a }
-}
-
-// The largest epoch of a bucket outside the ledger, or 0, by their heads.
-fn top_of_heads(z: Sizes, spare: &[u8]) -> u64
-    requires chip { Chip z spare.now }
-    requires headed { Headed z (spare_only spare.now) }
-    ensures { result ≡ max_below (body z) (epoch_of z (spare_only spare.now)) }
-{
-    let end = geometry::body(z);
-    let mut top = 0;
-    let mut c = 0;
-    while c < end {
-        let epoch = epoch_there(z, c, spare) as u64;
-        top = larger(top, epoch);
-        c += 1;
-    }
-    top
-}
-
-// The same by first pages alone, which are the heads while none is spoiled. To ask each bucket for its head takes longer.
+// The largest epoch of a bucket outside the ledger, or 0.
 fn body_top(z: Sizes, spare: &[u8]) -> u64
     requires chip { Chip z spare.now }
     requires headed { Headed z (spare_only spare.now) }
     ensures { result ≡ max_below (body z) (epoch_of z (spare_only spare.now)) }
 {
-    let end = geometry::body(z);
-    let mut top = 0;
-    let mut c = 0;
-    while c < end {
-        let page = c * z.p;
-        let kind = spare::kind_at(spare, page);
-        if kind != spare::NO_KIND {
-            if kind == spare::SPOILED_KIND {
-                return top_of_heads(z, spare);
-            }
-            let epoch = spare::epoch_at(spare, page) as u64;
-            top = larger(top, epoch);
+    let mut top: u64 = 0;
+    for c in 0..geometry::body(z) {
+        if let Some(epoch) = rules::head_epoch(z, c, spare) {
+            top = top.max(epoch as u64);
         }
-        c += 1;
     }
     top
 }
@@ -175,7 +121,7 @@ pub fn top_epoch(z: Sizes, spare: &[u8]) -> u64
 {
     let buckets = body_top(z, spare);
     let entries = ledger::top_entry(z, spare);
-    larger(buckets, entries)
+    buckets.max(entries)
 }
 
 // A complete copy has its first page as its head.
@@ -226,15 +172,9 @@ fn queue_agrees(queue: queue::Queue, written: bool, z: Sizes, spare: &[u8]) -> b
     requires queue_value { all (is_below (body z)) (caches (entries_of queue)) ≡ true }
     ensures { result ≡ all (agrees z (spare_only spare.now) written) (entries_of queue) }
 {
-    let n = queue.used();
-    let items = queue.items;
     let mut agree = true;
-    let mut i = 0;
-    while i < n {
-        let e = items[i];
-        let agrees = entry_agrees(e, written, z, spare);
-        agree = agree & agrees;
-        i += 1;
+    for e in &queue.items[..queue.used()] {
+        agree &= entry_agrees(*e, written, z, spare);
     }
     agree
 }
@@ -255,15 +195,9 @@ fn free_blank(free: fifo::Fifo, z: Sizes, spare: &[u8]) -> bool
     requires free_value { all (is_below (body z)) (list_of free) ≡ true }
     ensures { result ≡ all (all_blank z (spare_only spare.now)) (list_of free) }
 {
-    let n = free.used();
-    let items = free.items;
     let mut blank = true;
-    let mut i = 0;
-    while i < n {
-        let c = items[i] as usize;
-        let clean = all_blank(z, c, spare);
-        blank = blank & clean;
-        i += 1;
+    for c in &free.items[..free.used()] {
+        blank &= all_blank(z, *c as usize, spare);
     }
     blank
 }

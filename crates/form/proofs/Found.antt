@@ -1,13 +1,13 @@
 -- Numbers, rows and tables found in bytes.
-use Prim.Native.Nat.{ℕ, suc, ◌+◌, ◌-◌, ◌*◌, ◌^◌, ◌<◌, ◌≤◌}
-use mathlib.Core.Path.{◌≡◌, refl, sym, ap, ◌∙◌}
+use Prim.Native.Nat.{ℕ, zero, suc, ◌+◌, ◌-◌, ◌*◌, ◌^◌, ◌<◌, ◌≤◌}
+use mathlib.Core.Path.{◌≡◌, refl, sym, ap, ap₂, ◌∙◌}
 use mathlib.Core.Bool.{Bool, true, false, ◌&&◌}
 use mathlib.Core.List.{List, [], ◌∷◌, ◌++◌, map, append-nil, append_assoc}
 use native.Mathlib.Omega.{arith}
-use native.Mathlib.Nat.{pow-le-pow_right, mul-le-mul_left, suc-mul}
+use native.Mathlib.Nat.{pow-le-pow_right, mul-le-mul_left}
 use native.Mathlib.Numerals.{unary_clauses}
 use borrow.Author.Tests.{leb-true}
-use lib.ListN.{length, drop, get_or, length-append, length-drop}
+use lib.ListN.{length, take, drop, get_or, length-append, length-drop}
 use lib.Seq.{get_or-drop, drop-drop}
 use lib.Dec.{leb, eqb}
 use Rattle.std.specs.Prelude.{if◌then◌else◌}
@@ -96,41 +96,48 @@ next_row ws bytes from n i h =
     rw (left, drop-drop (width ws) from bytes)
 
 module _ {A : Type 0} (ws : List ℕ) (made : List ℕ → A) where
-  -- of n rows from the place `start` on the first i are made, and the next stands at `from`
-  pub record Made (bytes : List ℕ) (start n : ℕ) (done : List A) (from i : ℕ) : Type 0 where
-    pub whole : done ++ map made (rows_in ws (n - i) (drop from bytes)) ≡ map made (rows_in ws n (drop start bytes))
+  -- of n rows from the place `start` on the first i are made
+  pub record Made (bytes : List ℕ) (start n : ℕ) (done : List A) (i : ℕ) : Type 0 where
+    pub whole : done ++ map made (rows_in ws (n - i) (drop (start + i * width ws) bytes)) ≡ map made (rows_in ws n (drop start bytes))
     pub counted : length done ≡ i
-    pub ends : from + (n - i) * width ws ≡ start + n * width ws
 
-  pub none_made : (bytes : List ℕ) (start n : ℕ) → Made bytes start n [] start 0
+  pub none_made : (bytes : List ℕ) (start n : ℕ) → Made bytes start n [] 0
   none_made bytes start n =
       let all : n - 0 ≡ n = omega arith in
-      record { whole = rw all; counted = refl; ends = rw all }
+      let first : start + 0 * width ws ≡ start = omega arith in
+      record { whole = rw (all, first); counted = refl }
 
-  pub row_made : {bytes : List ℕ} {start n : ℕ} {done : List A} {from i : ℕ} → i < n → Made bytes start n done from i
-      → Made bytes start n (done ++ (made (row_in ws (drop from bytes)) ∷ [])) (from + width ws) (i + 1)
-  row_made {bytes} {start} {n} {done} {from} {i} h m =
-      let left : n - i ≡ suc (n - (i + 1)) = omega arith in
+  pub row_made : {bytes : List ℕ} {start n : ℕ} {done : List A} {i : ℕ} → i < n → Made bytes start n done i
+      → Made bytes start n (done ++ (made (row_in ws (drop (start + i * width ws) bytes)) ∷ [])) (i + 1)
+  row_made {bytes} {start} {n} {done} {i} h m =
+      let from = start + i * width ws in
+      let next : start + (i + 1) * width ws ≡ from + width ws = omega arith in
       let row = made (row_in ws (drop from bytes)) in
       let rest = map made (rows_in ws (n - (i + 1)) (drop (from + width ws) bytes)) in
       record {
-        whole = append_assoc done (row ∷ []) rest ∙ sym (ap (λ (l : List (List ℕ)). done ++ map made l) (next_row ws bytes from n i h)) ∙ m.whole;
+        whole = rw next (append_assoc done (row ∷ []) rest ∙ sym (ap (λ (l : List (List ℕ)). done ++ map made l) (next_row ws bytes from n i h)) ∙ m.whole);
         counted = length-append done (row ∷ []) ∙ omega (arith, m.counted);
-        ends = omega (arith, rw (left, suc-mul (n - (i + 1)) (width ws)) at m.ends);
       }
 
   -- none is left to be made
-  pub all_made : {bytes : List ℕ} {start n : ℕ} {done : List A} {from i : ℕ} → n ≤ i → Made bytes start n done from i → done ≡ map made (rows_in ws n (drop start bytes))
+  pub all_made : {bytes : List ℕ} {start n : ℕ} {done : List A} {i : ℕ} → n ≤ i → Made bytes start n done i → done ≡ map made (rows_in ws n (drop start bytes))
   unfolding rows_in
   all_made {n = n} {done = done} {i = i} h m =
       let none : n - i ≡ 0 = omega arith in
       sym (append-nil done) ∙ rw none at m.whole
 
-  -- the next row is there
-  pub row_there : {bytes : List ℕ} {start n : ℕ} {done : List A} {from i : ℕ} → i < n → Made bytes start n done from i → from + width ws ≤ start + n * width ws
-  row_there {n = n} {i = i} h m =
-      let left : n - i ≡ suc (n - (i + 1)) = omega arith in
-      omega (arith, rw (left, suc-mul (n - (i + 1)) (width ws)) at m.ends)
+-- the next row is there
+pub row_there : (start wide n i : ℕ) → i < n → start + i * wide + wide ≤ start + n * wide
+row_there start wide n i h =
+    let next : i + 1 ≤ n = omega arith in
+    omega (arith, mul-le-mul_left wide next)
+
+-- a bucket's row is the bucket itself
+pub buckets_are : (n : ℕ) (l : List ℕ) → n ≤ length l → map bucket_from (rows_in bucket_widths n l) ≡ take n l
+unfolding rows_in width
+buckets_are zero l h = refl
+buckets_are (suc n) [] h = absurd (omega arith)
+buckets_are (suc n) (c ∷ l) h = ap₂ (λ x r. x ∷ r) (bucket_at (c ∷ l) 0) (buckets_are n l (omega arith))
 
 -- the table at a place: its rows, and that they are there
 module _ (c : ℕ) (ws : List ℕ) (bytes : List ℕ) (at n : ℕ) (count : n ≡ number_in c (drop at bytes)) where

@@ -1,15 +1,16 @@
 -- Forms laid into bytes, piece by piece.
 use Prim.Native.Nat.{ℕ, suc, ◌+◌, ◌*◌, ◌/◌, ◌%◌, ◌<◌, ◌≤◌}
-use mathlib.Core.Path.{◌≡◌, refl, sym, ap, ◌∙◌}
+use mathlib.Core.Path.{◌≡◌, refl, sym, ap, ap₂, ◌∙◌}
 use mathlib.Core.Bool.{Bool, true, false}
 use mathlib.Core.List.{List, [], ◌∷◌, ◌++◌, map}
 use mathlib.Core.Logic.{inl}
 use native.Mathlib.Omega.{arith}
 use borrow.Author.Tests.{leb-true}
-use lib.ListN.{length, take, drop, get_or, set, length-append, length-map}
+use lib.ListN.{length, drop, get_or, set, length-append, length-map, drop_of_length-le}
+use lib.Seq.{drop-cons}
+use native.Mathlib.Numerals.{add-one}
 use Rattle.lists.specs.Lists.{splice, concat_map}
 use Rattle.lists.proofs.Tests.{every_at}
-use Rattle.lists.proofs.Arrays.{rest_more, rest-none}
 use Rattle.lists.proofs.Splices.{splice-none, splice_one, splice_next}
 use Rattle.lists.proofs.Parts.{length-splice, splice_comm}
 use Rattle.model.specs.declared.Entry.{Entry}
@@ -61,17 +62,17 @@ module _ {A : Type 0} (ws : List ℕ) (numbers : A → List ℕ) where
   abbrev pub rows_of : List A → List ℕ
   rows_of l = concat_map (row_bytes ws) (map numbers l)
 
-  -- the rows of the first n items from the i-th on are left to be laid, which leads to the whole
-  pub record Left (items : List A) (n : ℕ) (out₀ : List ℕ) (end₀ : ℕ) (out : List ℕ) (end i : ℕ) : Type 0 where
-    pub whole : splice out end (rows_of (drop i (take n items))) ≡ splice out₀ end₀ (rows_of (take n items))
-    pub ends : end + length (rows_of (drop i (take n items))) ≡ end₀ + length (rows_of (take n items))
+  -- the rows of the items from the i-th on are left to be laid, which leads to the whole
+  pub record Left (items : List A) (out₀ : List ℕ) (end₀ : ℕ) (out : List ℕ) (end i : ℕ) : Type 0 where
+    pub whole : splice out end (rows_of (drop i items)) ≡ splice out₀ end₀ (rows_of items)
+    pub ends : end + length (rows_of (drop i items)) ≡ end₀ + length (rows_of items)
 
   -- none is left
-  pub all_put : (items : List A) (n i : ℕ) → n ≤ i → {out₀ out : List ℕ} {end₀ end : ℕ} → Left items n out₀ end₀ out end i
-      → (end ≡ end₀ + length (rows_of (take n items))) × (out ≡ splice out₀ end₀ (rows_of (take n items)))
+  pub all_put : (items : List A) (i : ℕ) → length items ≤ i → {out₀ out : List ℕ} {end₀ end : ℕ} → Left items out₀ end₀ out end i
+      → (end ≡ end₀ + length (rows_of items)) × (out ≡ splice out₀ end₀ (rows_of items))
   unfolding concat_map
-  all_put items n i h {out = out} {end = end} left =
-      let none : drop i (take n items) ≡ [] = rest-none i n items h in
+  all_put items i h {out = out} {end = end} left =
+      let none : drop i items ≡ [] = drop_of_length-le items {i = i} h in
       let e = rw none at left.ends in
       (omega (arith, e), sym (splice-none out end) ∙ rw none at left.whole)
 
@@ -83,26 +84,26 @@ module _ {A : Type 0} (ws : List ℕ) (numbers : A → List ℕ) where
         length-append (row_bytes ws (numbers x)) (rows_of l)
         ∙ rw (row_wide ws (numbers x) (shaped x), rows_wide l) (omega arith)
 
-    next_row : (d : A) (items : List A) (n i : ℕ) → i < n → n ≤ length items → rows_of (drop i (take n items)) ≡ row_bytes ws (numbers (get_or items i d)) ++ rows_of (drop (i + 1) (take n items))
+    next_row : (d : A) (items : List A) (i : ℕ) → i < length items → rows_of (drop i items) ≡ row_bytes ws (numbers (get_or items i d)) ++ rows_of (drop (i + 1) items)
     unfolding concat_map
-    next_row d items n i h k = ap rows_of (rest_more i n items d h k)
+    next_row d items i h = rw (add-one i) (ap rows_of (drop-cons items i d h))
 
-    pub rows_left : (d : A) (items : List A) (n i : ℕ) → i < n → n ≤ length items → length (rows_of (drop i (take n items))) ≡ width ws + length (rows_of (drop (i + 1) (take n items)))
-    rows_left d items n i h k =
-        ap length (next_row d items n i h k)
-        ∙ length-append (row_bytes ws (numbers (get_or items i d))) (rows_of (drop (i + 1) (take n items)))
+    pub rows_left : (d : A) (items : List A) (i : ℕ) → i < length items → length (rows_of (drop i items)) ≡ width ws + length (rows_of (drop (i + 1) items))
+    rows_left d items i h =
+        ap length (next_row d items i h)
+        ∙ length-append (row_bytes ws (numbers (get_or items i d))) (rows_of (drop (i + 1) items))
         ∙ rw (row_wide ws (numbers (get_or items i d)) (shaped (get_or items i d)))
 
     -- with the next row laid, the rows behind it are left
-    pub row_put : (d : A) (items : List A) (n i : ℕ) → i < n → n ≤ length items → {out₀ out : List ℕ} {end₀ end : ℕ} → Left items n out₀ end₀ out end i
-        → end₀ + length (rows_of (take n items)) ≤ length out → Left items n out₀ end₀ (splice out end (row_bytes ws (numbers (get_or items i d)))) (end + width ws) (i + 1)
-    row_put d items n i h k {out = out} {end = end} left room =
+    pub row_put : (d : A) (items : List A) (i : ℕ) → i < length items → {out₀ out : List ℕ} {end₀ end : ℕ} → Left items out₀ end₀ out end i
+        → end₀ + length (rows_of items) ≤ length out → Left items out₀ end₀ (splice out end (row_bytes ws (numbers (get_or items i d)))) (end + width ws) (i + 1)
+    row_put d items i h {out = out} {end = end} left room =
         let x = row_bytes ws (numbers (get_or items i d)) in
-        let rest = rows_of (drop (i + 1) (take n items)) in
+        let rest = rows_of (drop (i + 1) items) in
         let wide : length x ≡ width ws = row_wide ws (numbers (get_or items i d)) (shaped (get_or items i d)) in
-        let long = rows_left d items n i h k in
+        let long = rows_left d items i h in
         record {
-          whole = splice-behind out end (width ws) x rest wide (omega (arith, left.ends, long)) ∙ ap (splice out end) (sym (next_row d items n i h k)) ∙ left.whole;
+          whole = splice-behind out end (width ws) x rest wide (omega (arith, left.ends, long)) ∙ ap (splice out end) (sym (next_row d items i h)) ∙ left.whole;
           ends = omega (arith, left.ends, long);
         }
 
@@ -116,6 +117,14 @@ entry_shaped false e = refl
 pub bucket_shaped : (c : ℕ) → length (bucket_numbers c) ≡ length bucket_widths
 unfolding bucket_numbers
 bucket_shaped c = refl
+
+-- a bucket's row is the bucket itself
+pub buckets_laid : (l : List ℕ) → ((i : ℕ) → get_or l i 0 < 256) → rows_of bucket_widths bucket_numbers l ≡ l
+unfolding concat_map row_bytes bucket_numbers number_bytes
+buckets_laid [] h = refl
+buckets_laid (c ∷ l) h =
+    let same : c % 256 ≡ c = omega (arith, h 0) in
+    ap₂ (λ x r. x ∷ r) same (buckets_laid l (λ i. h (suc i)))
 
 pub entry_wide : (write : Bool) → 3 ≤ width (entry_widths write)
 unfolding width entry_widths

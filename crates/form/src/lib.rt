@@ -4,7 +4,7 @@
 mod reading;
 mod writing;
 
-ghost use Rattle.std.specs.Prelude.{◌≡◌, ◌&&◌, ◌≤◌, length, leb, if◌then◌else◌};
+ghost use Rattle.std.specs.Prelude.{◌≡◌, ◌&&◌, ◌≤◌, Some, None, IfSome, length, leb, if◌then◌else◌};
 ghost use Rattle.lists.specs.Lists.{splice};
 ghost use Rattle.model.specs.State.{unformatted};
 ghost use Rattle.state.specs.View.{view_of, state_of};
@@ -29,21 +29,21 @@ const READ_ROW: usize = 3;
 
 const WRITE_ROW: usize = 6;
 
-// The state's form at the start of `out`, and its length; 0 where it has none, or none that has room there.
-pub fn state_bytes(s: State, out: &mut [u8]) -> usize
-    ensures value { result ≡ (if has_form (view_of s) && leb (length (form_of (view_of s))) (length out.old) then length (form_of (view_of s)) else 0) }
+// The state's form at the start of `out`, and its length; None where it has none, or none that has room there.
+pub fn state_bytes(s: State, out: &mut [u8]) -> Option<usize>
+    ensures value { result ≡ (if has_form (view_of s) && leb (length (form_of (view_of s))) (length out.old) then Some (length (form_of (view_of s))) else None) }
     ensures out_after { out.new ≡ (if has_form (view_of s) && leb (length (form_of (view_of s))) (length out.old) then splice out.old 0 (form_of (view_of s)) else out.old) }
-    ensures upper_bound { result ≤ length out.new }
+    ensures upper_bound { IfSome result (λ size. size ≤ length out.new) }
 {
     if !writing::has_form(s) {
-        return 0;
+        return None;
     }
     let size = writing::form_size(s);
     if out.len() < size {
-        return 0;
+        return None;
     }
     writing::put_state(s, out);
-    size
+    Some(size)
 }
 
 // Whether the bytes are the form of a state.

@@ -22,17 +22,14 @@ fn byte_at(bytes: &[u8], at: usize) -> u8
     if at < bytes.len() { bytes[at] } else { 0 }
 }
 
-// The number that so many bytes from `at` on say.
+// The number that so many bytes from `at` on say: one, two or eight, and those behind the last are 0, so that no array of them goes to `from_be_bytes`.
 pub fn number_at(bytes: &[u8], at: usize, width: usize) -> u64
     requires { (at ≤ length bytes.now) × (width ≤ 8) }
     ensures { (result ≡ number_in width (drop at bytes.now)) × (result < 256 ^ width) }
 {
     let mut number = 0;
-    let mut i = 0;
-    while i < width {
-        let byte = byte_at(bytes, at + i);
-        number = number * 256 + (byte as u64);
-        i += 1;
+    for i in 0..width {
+        number = number * 256 + byte_at(bytes, at + i) as u64;
     }
     number
 }
@@ -87,34 +84,33 @@ fn queue_at(bytes: &[u8], at: usize, write: bool) -> Queue
     requires { (at ≤ length bytes.now) × (table_fits 1 (entry_widths write) 64 (drop at bytes.now) ≡ true) }
     ensures { result ≡ queue_of (entries_in write (drop at bytes.now)) }
 {
-    let n = number_at(bytes, at, 1);
+    let n = number_at(bytes, at, 1) as usize;
     let size = writing::entry_size(write);
     let mut queue = Queue::empty();
-    let mut from = at + 1;
-    let mut i = 0;
-    while i < n {
-        let e = entry_at(bytes, from, write);
-        queue = queue.push(e);
-        from += size;
-        i += 1;
+    for i in 0..n {
+        queue = queue.push(entry_at(bytes, at + 1 + i * size, write));
     }
     queue.cleared()
+}
+
+// The queue of these buckets.
+fn fifo_of(buckets: &[u8]) -> Fifo
+    requires { length buckets.now ≤ 256 }
+    ensures { result ≡ fifo_of buckets.now }
+{
+    let n = buckets.len();
+    let mut items = [0; 256];
+    items[..n].copy_from_slice(buckets);
+    Fifo { items, len: n }
 }
 
 fn fifo_at(bytes: &[u8], at: usize) -> Fifo
     requires { (at ≤ length bytes.now) × (table_fits 2 bucket_widths 256 (drop at bytes.now) ≡ true) }
     ensures { result ≡ fifo_of (buckets_in (drop at bytes.now)) }
 {
-    let n = number_at(bytes, at, 2);
-    let mut queue = Fifo::empty();
-    let mut from = at + 2;
-    let mut i = 0;
-    while i < n {
-        queue = queue.push(bytes[from]);
-        from += 1;
-        i += 1;
-    }
-    queue.cleared()
+    let n = number_at(bytes, at, 2) as usize;
+    let from = at + 2;
+    fifo_of(&bytes[from..from + n])
 }
 
 // Whether a table stands from `at` on: a count of so many bytes, at most so high, and its rows of so many bytes each.
@@ -154,16 +150,12 @@ pub fn marks_fit(bytes: &[u8], at: usize) -> bool
     requires { at ≤ length bytes.now }
     ensures { result ≡ all is_entry (table_in 1 (entry_widths true) (drop at bytes.now)) }
 {
-    let n = number_at(bytes, at, 1);
-    let mut from = at + 1;
-    let mut i = 0;
-    while i < n {
-        let mark = byte_at(bytes, from + 4);
+    let n = number_at(bytes, at, 1) as usize;
+    for i in 0..n {
+        let mark = byte_at(bytes, at + 1 + i * crate::WRITE_ROW + 4);
         if 1 < mark {
             return false;
         }
-        from += crate::WRITE_ROW;
-        i += 1;
     }
     true
 }

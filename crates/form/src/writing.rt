@@ -6,7 +6,7 @@ ghost use Rattle.queue.specs.View.{entries_of};
 ghost use Rattle.state.specs.View.{places_of, view_of};
 ghost use Rattle.form.specs.Numbers.{number_bytes};
 ghost use Rattle.form.specs.Rows.{width, row_bytes, row_fits};
-ghost use Rattle.form.specs.Form.{size_widths, size_numbers, mark, head_widths, head_numbers, entry_widths, entry_numbers, bucket_widths, bucket_numbers, is_plain, entries_form, buckets_form, form_of, has_form};
+ghost use Rattle.form.specs.Form.{size_widths, size_numbers, mark, head_widths, head_numbers, entry_widths, entry_numbers, is_plain, entries_form, buckets_form, form_of, has_form};
 
 use fifo::Fifo;
 use model::{Entry, Sizes};
@@ -19,9 +19,7 @@ fn put_number(out: &mut [u8], at: usize, width: usize, number: u64)
     ensures { out.new ≡ splice out.old at (number_bytes width number) }
 {
     let mut rest = number;
-    let mut i = width;
-    while 0 < i {
-        i -= 1;
+    for i in (0..width).rev() {
         out[at + i] = (rest % 256) as u8;
         rest = rest / 256;
     }
@@ -55,7 +53,8 @@ fn put_head(out: &mut [u8], s: State)
     put_number(out, crate::EPOCH, 8, s.next);
 }
 
-// The bytes of an entry.
+// The bytes of an entry. Which queue it is of is a bool here and in all that reads and writes it, as in the definitions of specs/Form that these meet:
+// `entry_widths`, `entry_numbers`, `entries_form`, `entries_in`.
 pub fn entry_size(write: bool) -> usize
     ensures { result ≡ width (entry_widths write) }
 {
@@ -79,19 +78,17 @@ fn put_entry(out: &mut [u8], at: usize, e: Entry, write: bool)
     }
 }
 
-// The first n entries from `at` on; the place behind them.
-fn put_entries(out: &mut [u8], at: usize, items: [Entry; 64], n: usize, write: bool) -> usize
-    requires { (n ≤ 64) × (at + length (concat_map (row_bytes (entry_widths write)) (map (entry_numbers write) (take n items))) ≤ length out.old) }
-    ensures { (result ≡ at + length (concat_map (row_bytes (entry_widths write)) (map (entry_numbers write) (take n items)))) × (out.new ≡ splice out.old at (concat_map (row_bytes (entry_widths write)) (map (entry_numbers write) (take n items)))) }
+// The entries from `at` on; the place behind them.
+fn put_entries(out: &mut [u8], at: usize, entries: &[Entry], write: bool) -> usize
+    requires { at + length (concat_map (row_bytes (entry_widths write)) (map (entry_numbers write) entries.now)) ≤ length out.old }
+    ensures end { result ≡ at + length (concat_map (row_bytes (entry_widths write)) (map (entry_numbers write) entries.now)) }
+    ensures written { out.new ≡ splice out.old at (concat_map (row_bytes (entry_widths write)) (map (entry_numbers write) entries.now)) }
 {
     let size = entry_size(write);
     let mut end = at;
-    let mut i = 0;
-    while i < n {
-        let e = items[i];
-        put_entry(out, end, e, write);
+    for e in entries {
+        put_entry(out, end, *e, write);
         end += size;
-        i += 1;
     }
     end
 }
@@ -102,24 +99,17 @@ fn put_queue(out: &mut [u8], at: usize, queue: Queue, write: bool) -> usize
     ensures { (result ≡ at + length (entries_form write (entries_of queue))) × (out.new ≡ splice out.old at (entries_form write (entries_of queue))) }
 {
     let n = queue.used();
-    let items = queue.items;
     put_number(out, at, 1, n as u64);
-    put_entries(out, at + 1, items, n, write)
+    put_entries(out, at + 1, &queue.items[..n], write)
 }
 
-fn put_buckets(out: &mut [u8], at: usize, items: [u8; 256], n: usize) -> usize
-    requires { (n ≤ 256) × (at + length (concat_map (row_bytes bucket_widths) (map bucket_numbers (take n items))) ≤ length out.old) }
-    ensures { (result ≡ at + length (concat_map (row_bytes bucket_widths) (map bucket_numbers (take n items)))) × (out.new ≡ splice out.old at (concat_map (row_bytes bucket_widths) (map bucket_numbers (take n items)))) }
+fn put_buckets(out: &mut [u8], at: usize, buckets: &[u8]) -> usize
+    requires { at + length (buckets_form buckets.now) ≤ length out.old }
+    ensures { (result ≡ at + length (buckets_form buckets.now)) × (out.new ≡ splice out.old at (buckets_form buckets.now)) }
 {
-    let mut end = at;
-    let mut i = 0;
-    while i < n {
-        let bucket = items[i];
-        put_number(out, end, 1, bucket as u64);
-        end += 1;
-        i += 1;
-    }
-    end
+    put_number(out, at, 2, buckets.len() as u64);
+    area::write_at(out, at + 2, buckets);
+    at + 2 + buckets.len()
 }
 
 fn put_fifo(out: &mut [u8], at: usize, queue: Fifo) -> usize
@@ -127,9 +117,7 @@ fn put_fifo(out: &mut [u8], at: usize, queue: Fifo) -> usize
     ensures { (result ≡ at + length (buckets_form (list_of queue))) × (out.new ≡ splice out.old at (buckets_form (list_of queue))) }
 {
     let n = queue.used();
-    let items = queue.items;
-    put_number(out, at, 2, n as u64);
-    put_buckets(out, at + 2, items, n)
+    put_buckets(out, at, &queue.items[..n])
 }
 
 // How long the state's form is.
@@ -166,17 +154,14 @@ fn is_plain(e: Entry) -> bool
     (e.priority == 0) & (e.blank == 0) & !e.marked
 }
 
-fn all_plain(items: [Entry; 64], n: usize) -> bool
-    requires { n ≤ 64 }
-    ensures { result ≡ all is_plain (take n items) }
+// A loop, since `all` of specs is a recursion over the list, and what an iterator's `all` promises is said by index.
+fn all_plain(entries: &[Entry]) -> bool
+    ensures { result ≡ all is_plain entries.now }
 {
-    let mut i = 0;
-    while i < n {
-        let e = items[i];
-        if !is_plain(e) {
+    for e in entries {
+        if !is_plain(*e) {
             return false;
         }
-        i += 1;
     }
     true
 }
@@ -188,8 +173,6 @@ pub fn has_form(s: State) -> bool
     if !s.has_places() {
         return false;
     }
-    let reads = s.reads;
-    let n = reads.used();
-    let items = reads.items;
-    sizes_fit(s.sizes) & all_plain(items, n)
+    let n = s.reads.used();
+    sizes_fit(s.sizes) & all_plain(&s.reads.items[..n])
 }

@@ -25,12 +25,9 @@ fn erase_all(meter: Meter, z: Sizes, flash: &mut [u8], spare: &mut [u8], disk: &
     ensures result_after { running flash.new spare.new disk.new result ≡ run_all z (map erase (below z.c)) (running flash.old spare.old disk.old meter) }
     ensures lent { Lent z flash.new spare.new disk.new }
 {
-    let c = z.c;
     let mut run = meter;
-    let mut bucket = 0;
-    while bucket < c {
+    for bucket in 0..z.c {
         run = meter::erase_bucket(run, z, bucket, flash, spare, disk);
-        bucket += 1;
     }
     run
 }
@@ -80,10 +77,8 @@ pub fn format(
 ) -> Outcome
     ensures { handed_back (device flash.new spare.new disk.new) [] result ≡ handed s (call allowance (format_call z) (view_of s) (device flash.old spare.old disk.old)) }
 {
-    let number = geometry::lent_refusal(z, flash, spare, disk);
-    if number == 0 {
-        format_chip(s, z, allowance, flash, spare, disk)
-    } else {
-        outcome::refused(number, s)
+    match geometry::check_lent(z, flash, spare, disk) {
+        Ok(()) => format_chip(s, z, allowance, flash, spare, disk),
+        Err(refusal) => outcome::refused(refusal.number(), s),
     }
 }

@@ -4,41 +4,40 @@ use mathlib.Core.Bool.{Bool, true, false, ◌&&◌}
 use mathlib.Core.List.{List}
 use Prim.Native.Nat.{ℕ, ◌%◌, ◌≤◌, ◌<◌}
 use native.Mathlib.Omega.{arith}
+use Rattle.std.proofs.Common.{◌⊎◌, inl, inr}
 use borrow.Author.Tests.{ne_eqb, le-leb, lt-leb}
 use lib.ListN.{length}
-use lib.Dec.{eqb, leb}
+use lib.Dec.{eqb}
 use Rattle.lists.specs.Lists.{within, every, all}
 use Rattle.lists.proofs.Tests.{and_left, and_false, within-true}
 use Rattle.model.specs.Driving.{is_digit, bytes_of, operation, frame_fits, line_fits}
 use Rattle.digits.proofs.Values.{above}
+use Rattle.frame.specs.declared.Operation.{Operation}
+use Rattle.frame.specs.declared.Operation.TheVariants.{Format, Read, Write, EraseStep, Drain, Recover}
+use Rattle.frame.specs.Request.{number_of, length_fits}
 
 module _ (f : List ℕ) where
-  pub format-fits : operation f ≡ 1 → frame_fits f ≡ eqb (length f) 12
-  unfolding frame_fits
-  format-fits e = rw e
-
-  pub read_fits : operation f ≡ 2 → frame_fits f ≡ eqb (length f) 9
-  unfolding frame_fits
-  read_fits e = rw e
-
-  pub write-fits : operation f ≡ 3 → frame_fits f ≡ leb 7 (length f)
-  unfolding frame_fits
-  write-fits e = rw e
-
   others : 4 ≤ operation f → frame_fits f ≡ within 4 6 (operation f) && eqb (length f) 3
   unfolding frame_fits
   others h = rw (ne_eqb (operation f) 1 (λ e. omega arith), ne_eqb (operation f) 2 (λ e. omega arith), ne_eqb (operation f) 3 (λ e. omega arith))
 
   -- erase step, drain, recover
-  pub bare_fits : 4 ≤ operation f → operation f ≤ 6 → frame_fits f ≡ eqb (length f) 3
+  bare_fits : 4 ≤ operation f → operation f ≤ 6 → frame_fits f ≡ eqb (length f) 3
   bare_fits h k = others h ∙ rw (within-true 4 6 (operation f) h k)
 
-  pub unknown_high : 6 < operation f → frame_fits f ≡ false
-  unknown_high h = others (omega arith) ∙ rw (above 4 6 (operation f) h)
+  pub known_fits : (o : Operation) → operation f ≡ number_of o → frame_fits f ≡ length_fits o (length f)
+  unfolding frame_fits
+  known_fits Format e = rw e
+  known_fits Read e = rw e
+  known_fits Write e = rw e
+  known_fits EraseStep e = bare_fits (omega arith) (omega arith)
+  known_fits Drain e = bare_fits (omega arith) (omega arith)
+  known_fits Recover e = bare_fits (omega arith) (omega arith)
 
-  pub unknown_low : operation f < 1 → frame_fits f ≡ false
+  pub unknown : (operation f ≡ 0) ⊎ (6 < operation f) → frame_fits f ≡ false
   unfolding frame_fits within
-  unknown_low h = let e : operation f ≡ 0 = omega arith in rw e
+  unknown (inl e) = rw e
+  unknown (inr h) = others (omega arith) ∙ rw (above 4 6 (operation f) h)
 
 pub too_long : (line : List ℕ) → 512 < length line → line_fits line ≡ false
 unfolding line_fits every

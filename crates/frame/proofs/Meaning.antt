@@ -1,21 +1,20 @@
 -- What a line's request says of the line, in the definitions' terms: whether the line fits, the call, its allowance.
 use mathlib.Core.Path.{◌≡◌, refl, ◌∙◌}
-use mathlib.Core.Bool.{Bool, true, false, not}
+use mathlib.Core.Bool.{Bool, true, false}
 use mathlib.Core.List.{List}
 use Prim.Native.Nat.{ℕ}
 use lib.ListN.{drop, replicate}
 use lib.Dec.{eqb}
-use Rattle.std.specs.Prelude.{if◌then◌else◌}
+use Rattle.std.specs.Prelude.{if◌then◌else◌, Some, None}
 use Rattle.model.specs.declared.Sizes.{Sizes}
 use Rattle.model.specs.Calls.{Call, format_call, read_call, write_call, erase_call, drain_call, recover_call}
 use Rattle.model.specs.Driving.{bytes_of, operation, allowance, line_fits, call_of}
 use Rattle.frame.specs.declared.Request.{Request}
-use Rattle.frame.specs.declared.Request.TheVariants.{Bad, Format, Read, Write, Erase, Drain, Recover}
+use Rattle.frame.specs.declared.Request.TheVariants.{Format, Read, Write, Erase, Drain, Recover}
 use Rattle.frame.specs.Request.{format_from, read_from, write_from, bare_from, frame_request, request_of, is_format}
 
--- the call, at the sizes of the last Done format, of a frame with a write's data; of no meaning where the line is bad
+-- the call, at the sizes of the last Done format, of a frame with a write's data
 unfoldable pub call_from : Sizes → List ℕ → Request → Call
-call_from z f Bad = recover_call z
 call_from z f (Format n sizes) = format_call sizes
 call_from z f (Read n b off len) = read_call b off (replicate len 0)
 call_from z f (Write n b off placed) = write_call b off (drop placed.at f)
@@ -24,22 +23,12 @@ call_from z f (Drain n) = drain_call
 call_from z f (Recover n) = recover_call z
 
 unfoldable pub allowance_of : Request → ℕ
-allowance_of Bad = 0
 allowance_of (Format n sizes) = n
 allowance_of (Read n b off len) = n
 allowance_of (Write n b off placed) = n
 allowance_of (Erase n) = n
 allowance_of (Drain n) = n
 allowance_of (Recover n) = n
-
-unfoldable pub is_bad : Request → Bool
-is_bad Bad = true
-is_bad (Format n sizes) = false
-is_bad (Read n b off len) = false
-is_bad (Write n b off placed) = false
-is_bad (Erase n) = false
-is_bad (Drain n) = false
-is_bad (Recover n) = false
 
 -- ---- a frame's request
 
@@ -97,20 +86,20 @@ module _ (f : List ℕ) where
   unfolding is_format format_from read_from write_from
   frame_format = each is_format ∙ first (is 1) (is 2) (is 3) (is 4) (is 5)
 
-  pub frame_good : is_bad (frame_request f) ≡ false
-  unfolding is_bad format_from read_from write_from
-  frame_good = each is_bad ∙ alike (is 1) (is 2) (is 3) (is 4) (is 5) false
-
--- a line is bad where the definitions print F0
-pub line_bad : (line : List ℕ) → is_bad (request_of line) ≡ not (line_fits line)
-unfolding request_of is_bad
-line_bad line = go (line_fits line)
-  where
-    go : (t : Bool) → is_bad (if t then frame_request (bytes_of line) else Bad) ≡ not t
-    go true = frame_good (bytes_of line)
-    go false = refl
-
--- any other line asks what its frame asks
-pub line_asks : (line : List ℕ) → line_fits line ≡ true → request_of line ≡ frame_request (bytes_of line)
+-- a line with a request fits, and asks what its frame asks
+pub line_asks : (line : List ℕ) {q : Request} → Some q ≡ request_of line → (line_fits line ≡ true) × (q ≡ frame_request (bytes_of line))
 unfolding request_of
-line_asks line e = rw e
+line_asks line {q} e = go (line_fits line) e
+  where
+    go : (t : Bool) → Some q ≡ (if t then Some (frame_request (bytes_of line)) else None) → (t ≡ true) × (q ≡ frame_request (bytes_of line))
+    go true k = (refl, cc)
+    go false k = (cc, cc)
+
+-- one without does not
+pub line_bad : (line : List ℕ) → None ≡ request_of line → line_fits line ≡ false
+unfolding request_of
+line_bad line e = go (line_fits line) e
+  where
+    go : (t : Bool) → None ≡ (if t then Some (frame_request (bytes_of line)) else None) → t ≡ false
+    go true k = cc
+    go false k = refl

@@ -1,9 +1,29 @@
 -- What a line asks for.
-use Rattle.std.specs.Prelude.{ℕ, Bool, true, false, List, length, drop, eqb, if◌then◌else◌}
+use Rattle.std.specs.Prelude.{ℕ, Bool, true, false, List, length, drop, eqb, leb, if◌then◌else◌, Option, Some, None}
 use Rattle.model.specs.Spare.{two}
 use Rattle.model.specs.Driving.{bytes_of, operation, allowance, format_sizes, line_fits}
+use Rattle.frame.specs.declared.Operation.{Operation}
+use Rattle.frame.specs.declared.Operation.TheVariants as kind
 use Rattle.frame.specs.declared.Request.{Request}
-use Rattle.frame.specs.declared.Request.TheVariants.{Bad, Format, Read, Write, Erase, Drain, Recover}
+use Rattle.frame.specs.declared.Request.TheVariants.{Format, Read, Write, Erase, Drain, Recover}
+
+-- the byte that stands for an operation
+abbrev pub number_of : Operation → ℕ
+number_of kind.Format = 1
+number_of kind.Read = 2
+number_of kind.Write = 3
+number_of kind.EraseStep = 4
+number_of kind.Drain = 5
+number_of kind.Recover = 6
+
+-- whether its frame may have so many bytes
+abbrev pub length_fits : Operation → (bytes : ℕ) → Bool
+length_fits kind.Format n = eqb n 12
+length_fits kind.Read n = eqb n 9
+length_fits kind.Write n = leb 7 n
+length_fits kind.EraseStep n = eqb n 3
+length_fits kind.Drain n = eqb n 3
+length_fits kind.Recover n = eqb n 3
 
 -- The requests of frames with fields, at the allowance n. The data of a write are what is left behind its fields.
 
@@ -27,11 +47,11 @@ frame_request f =
     else (if eqb (operation f) 2 then read_from (allowance f) f
     else (if eqb (operation f) 3 then write_from (allowance f) f else bare_from (operation f) (allowance f)))
 
-unfoldable pub request_of : List ℕ → Request
-request_of line = if line_fits line then frame_request (bytes_of line) else Bad
+-- a line's, if it fits
+unfoldable pub request_of : List ℕ → Option Request
+request_of line = if line_fits line then Some (frame_request (bytes_of line)) else None
 
 unfoldable pub is_format : Request → Bool
-is_format Bad = false
 is_format (Format n sizes) = true
 is_format (Read n b off len) = false
 is_format (Write n b off placed) = false

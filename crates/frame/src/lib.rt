@@ -1,10 +1,10 @@
 // What a line of the driving program asks for. It is one frame of bytes, walked from field to field.
 #![tactic(auto)]
 
-ghost use Rattle.std.specs.Prelude.{◌≡◌, true, length, drop};
+ghost use Rattle.std.specs.Prelude.{◌≡◌, ◌<◌, ◌⊎◌, true, length, drop, MatchOption};
 ghost use Rattle.lists.specs.Lists.{all};
 ghost use Rattle.model.specs.Driving.{is_digit, bytes_of, operation, frame_fits, line_fits};
-ghost use Rattle.frame.specs.Request.{format_from, read_from, write_from, bare_from, frame_request, request_of};
+ghost use Rattle.frame.specs.Request.{number_of, length_fits, format_from, read_from, write_from, frame_request, request_of};
 
 use line::Line;
 use model::Sizes;
@@ -12,18 +12,45 @@ use model::Sizes;
 // The digits of the longest line.
 const LONGEST: usize = 512;
 
-// The operation bytes.
-const FORMAT: usize = 1;
+// The operations.
+#[derive(Clone, Copy)]
+pub enum Operation {
+    Format,
+    Read,
+    Write,
+    EraseStep,
+    Drain,
+    Recover,
+}
 
-const READ: usize = 2;
+impl Operation {
+    // The operation of a frame's first byte, if that is one.
+    pub fn of(byte: usize) -> Option<Operation>
+        ensures { MatchOption result ((byte ≡ 0) ⊎ (6 < byte)) (λ o. byte ≡ number_of o) }
+    {
+        match byte {
+            1 => Some(Operation::Format),
+            2 => Some(Operation::Read),
+            3 => Some(Operation::Write),
+            4 => Some(Operation::EraseStep),
+            5 => Some(Operation::Drain),
+            6 => Some(Operation::Recover),
+            _ => None,
+        }
+    }
 
-const WRITE: usize = 3;
-
-const ERASE_STEP: usize = 4;
-
-const DRAIN: usize = 5;
-
-const RECOVER: usize = 6;
+    // Whether its frame may have so many bytes: 3 of operation and allowance, and those of its fields.
+    fn fits(self, bytes: usize) -> bool
+        ensures { result ≡ length_fits self bytes }
+    {
+        match self {
+            Operation::Format => bytes == 12,
+            Operation::Read => bytes == 9,
+            Operation::Write => 7 <= bytes,
+            Operation::EraseStep | Operation::Drain | Operation::Recover => bytes == 3,
+        }
+    }
+}
 
 // The data of a write: the byte of the frame where they begin, and how many they are.
 #[derive(Clone, Copy)]
@@ -32,10 +59,9 @@ pub struct Data {
     pub length: usize,
 }
 
-// What a line asks for, with its allowance of stores. Bad is the paper's F0.
+// What a line asks for, with its allowance of stores.
 #[derive(Clone, Copy)]
 pub enum Request {
-    Bad,
     Format {
         allowance: usize,
         sizes: Sizes,
@@ -62,12 +88,12 @@ fn format_request<'a>(allowance: Line<'a>) -> Request
     requires { allowance.at ≡ 3 }
     ensures { result ≡ format_from allowance.entry.field (bytes_of allowance.entry.text.now) }
 {
-    let s = line::next(allowance, 2);
-    let p = line::next(s, 1);
-    let c = line::next(p, 2);
-    let b = line::next(c, 2);
-    let r = line::next(b, 1);
-    let w = line::next(r, 1);
+    let s = allowance.next(2);
+    let p = s.next(1);
+    let c = p.next(2);
+    let b = c.next(2);
+    let r = b.next(1);
+    let w = r.next(1);
     Request::Format {
         allowance: allowance.field,
         sizes: Sizes {
@@ -86,9 +112,9 @@ fn read_request<'a>(allowance: Line<'a>) -> Request
     requires { allowance.at ≡ 3 }
     ensures { result ≡ read_from allowance.entry.field (bytes_of allowance.entry.text.now) }
 {
-    let bucket = line::next(allowance, 2);
-    let offset = line::next(bucket, 2);
-    let length = line::next(offset, 2);
+    let bucket = allowance.next(2);
+    let offset = bucket.next(2);
+    let length = offset.next(2);
     Request::Read {
         allowance: allowance.field,
         bucket: bucket.field,
@@ -102,9 +128,9 @@ fn write_request<'a>(allowance: Line<'a>) -> Request
     requires { allowance.at ≡ 3 }
     ensures { result ≡ write_from allowance.entry.field (bytes_of allowance.entry.text.now) }
 {
-    let bucket = line::next(allowance, 2);
-    let offset = line::next(bucket, 2);
-    let length = line::left(offset);
+    let bucket = allowance.next(2);
+    let offset = bucket.next(2);
+    let length = offset.left();
     Request::Write {
         allowance: allowance.field,
         bucket: bucket.field,
@@ -116,28 +142,20 @@ fn write_request<'a>(allowance: Line<'a>) -> Request
     }
 }
 
-// An operation without fields.
-fn bare_request(operation: usize, allowance: usize) -> Request
-    ensures { result ≡ bare_from operation allowance }
-{
-    match operation {
-        ERASE_STEP => Request::Erase(allowance),
-        DRAIN => Request::Drain(allowance),
-        _ => Request::Recover(allowance),
-    }
-}
-
-// The request of a frame that fits: "operation byte, allowance (2), fields".
+// The request of a frame that fits: "operation byte, allowance (2), fields". Of any other frame it is a request too, as the definition has it.
 pub fn frame_request(text: &[u8]) -> Request
     ensures { result ≡ frame_request (bytes_of text.now) }
 {
-    let operation = line::next(line::start(text), 1);
-    let allowance = line::next(operation, 2);
-    match operation.field {
-        FORMAT => format_request(allowance),
-        READ => read_request(allowance),
-        WRITE => write_request(allowance),
-        _ => bare_request(operation.field, allowance.field),
+    let operation = Line::start(text).next(1);
+    let allowance = operation.next(2);
+    match Operation::of(operation.field) {
+        Some(Operation::Format) => format_request(allowance),
+        Some(Operation::Read) => read_request(allowance),
+        Some(Operation::Write) => write_request(allowance),
+        Some(Operation::EraseStep) => Request::Erase(allowance.field),
+        Some(Operation::Drain) => Request::Drain(allowance.field),
+        Some(Operation::Recover) => Request::Recover(allowance.field),
+        None => Request::Recover(allowance.field),
     }
 }
 
@@ -145,22 +163,17 @@ pub fn frame_request(text: &[u8]) -> Request
 fn frame_operation(text: &[u8]) -> usize
     ensures { result ≡ operation (bytes_of text.now) }
 {
-    let operation = line::next(line::start(text), 1);
+    let operation = Line::start(text).next(1);
     operation.field
 }
 
-// A known operation with fields of the right length, behind 3 bytes of operation and allowance.
+// A known operation with fields of the right length.
 pub fn frame_fits(line: &[u8]) -> bool
     ensures { result ≡ frame_fits (bytes_of line.now) }
 {
-    let bytes = line.len() / 2;
-    let operation = frame_operation(line);
-    match operation {
-        FORMAT => bytes == 12,
-        READ => bytes == 9,
-        WRITE => 7 <= bytes,
-        ERASE_STEP..=RECOVER => bytes == 3,
-        _ => false,
+    match Operation::of(frame_operation(line)) {
+        Some(operation) => operation.fits(line.len() / 2),
+        None => false,
     }
 }
 
@@ -174,13 +187,14 @@ pub fn line_fits(line: &[u8]) -> bool
     digits::all_digits(line) & (line.len() % 2 == 0) & frame_fits(line)
 }
 
-pub fn request_of(line: &[u8]) -> Request
+// What the line asks for, unless it is one of F0.
+pub fn request_of(line: &[u8]) -> Option<Request>
     ensures { result ≡ request_of line.now }
 {
     if line_fits(line) {
-        frame_request(line)
+        Some(frame_request(line))
     } else {
-        Request::Bad
+        None
     }
 }
 

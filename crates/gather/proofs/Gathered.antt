@@ -6,7 +6,7 @@ use mathlib.Core.Bool.{Bool, true, false}
 use mathlib.Core.List.{List, [], ◌∷◌}
 use native.Mathlib.Nat.{le_refl}
 use lib.ListN.{length}
-use Rattle.std.specs.Prelude.{if◌then◌else◌}
+use Rattle.std.specs.Prelude.{Option, Some, None, MatchOption, if◌then◌else◌}
 use Rattle.lists.specs.Lists.{part}
 use Rattle.model.specs.declared.Sizes.{Sizes}
 use Rattle.model.specs.Sizes.{Device, bucket_size, body}
@@ -73,6 +73,11 @@ module _ {s : State} {b : ℕ} {flash spare disk : List ℕ} (sources : Sources 
           ap length (sym (same-merge s.sizes (device flash spare disk) (cache_of b s.writes) base))
           ∙ merged-length readable sources.write base base_size s.sizes.p (le_refl s.sizes.p)
       at false = base_size
+
+-- a list of none or of one that two look at
+pub listed : (o : Option ℕ) {list caches : List ℕ} → MatchOption o (caches ≡ []) (λ c. caches ≡ c ∷ []) → MatchOption o (list ≡ []) (λ c. list ≡ c ∷ []) → list ≡ caches
+listed None p q = q ∙ sym p
+listed (Some c) p q = q ∙ sym p
 
 -- the logs of the Write bucket, if there is one, lie over the base
 pub merged-all : (z : Sizes) (s : State) (d : Device) (b : ℕ) → merged z s d b ≡ merge_all z d (caches_of b s.writes) (base_bytes z s d b)

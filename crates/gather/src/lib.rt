@@ -2,7 +2,7 @@
 // A window is a lent buffer that comes to show a part of them; no other byte is copied.
 #![tactic(auto)]
 
-ghost use Rattle.std.specs.Prelude.{◌≡◌, true, List, ℕ, ◌+◌, ◌*◌, ◌≤◌, ◌<◌, length, take};
+ghost use Rattle.std.specs.Prelude.{◌≡◌, true, List, [], ◌∷◌, ℕ, ◌+◌, ◌*◌, ◌≤◌, ◌<◌, length, MatchOption};
 ghost use Rattle.lists.specs.Lists.{all, part};
 ghost use Rattle.model.specs.Sizes.{bucket_size, disk_size, body};
 ghost use Rattle.model.specs.Stores.{disk_bytes, unit_stores};
@@ -31,22 +31,14 @@ pub fn piece_range(area: &[u8], size: usize, index: usize, from: usize, window: 
     area::copy_over(window, &area[at..end]);
 }
 
-// The Write bucket of b, as a list of none or of one.
-#[derive(Clone, Copy)]
-pub struct Logs {
-    pub list: [u8; 1],
-    pub count: usize,
-}
-
-pub fn logs_of(s: State, b: u16) -> Logs
-    ensures { (result.count ≤ 1) × (take result.count result.list ≡ caches_of b (entries_of s.writes)) }
+// The Write bucket of b, if it has one.
+pub fn logs_of(s: State, b: u16) -> Option<u8>
+    ensures { MatchOption result (caches_of b (entries_of s.writes) ≡ []) (λ c. caches_of b (entries_of s.writes) ≡ c ∷ []) }
 {
-    let found = s.writes.find(b);
-    let list = [found.cache];
-    if found.held {
-        return Logs { list, count: 1 };
+    match s.writes.find(b) {
+        Some(own) => Some(own.cache),
+        None => None,
     }
-    Logs { list, count: 0 }
 }
 
 // The window shows, from an index on, the logs of the listed buckets over piece number `index` of an area of pieces of a bucket's size.
@@ -88,14 +80,13 @@ pub fn merged_range(
 {
     let z = s.sizes;
     let logs = logs_of(s, b);
-    let list = logs.list;
-    let n = logs.count;
-    let copy = s.reads.find(b);
-    if copy.held {
-        let c = copy.cache as usize;
-        lay_piece(z, &list[..n], flash, c, from, flash, spare, window);
-    } else {
-        lay_piece(z, &list[..n], disk, b as usize, from, flash, spare, window);
+    let list = logs.as_slice();
+    match s.reads.find(b) {
+        Some(copy) => {
+            let c = copy.cache as usize;
+            lay_piece(z, list, flash, c, from, flash, spare, window);
+        }
+        None => lay_piece(z, list, disk, b as usize, from, flash, spare, window),
     }
 }
 
@@ -108,14 +99,13 @@ fn lay_merged(s: State, b: u16, flash: &[u8], spare: &[u8], window: &mut [u8])
 {
     let z = s.sizes;
     let logs = logs_of(s, b);
-    let list = logs.list;
-    let n = logs.count;
-    let copy = s.reads.find(b);
-    if copy.held {
-        let c = copy.cache as usize;
-        lay_piece(z, &list[..n], flash, c, 0, flash, spare, window);
-    } else {
-        overlay::lay_over(z, &list[..n], 0, flash, spare, window);
+    let list = logs.as_slice();
+    match s.reads.find(b) {
+        Some(copy) => {
+            let c = copy.cache as usize;
+            lay_piece(z, list, flash, c, 0, flash, spare, window);
+        }
+        None => overlay::lay_over(z, list, 0, flash, spare, window),
     }
 }
 
@@ -134,8 +124,6 @@ pub fn write_merged(
 {
     let z = s.sizes;
     let place = units::place(meter, z, b as usize);
-    let at = place.at;
-    let end = place.end;
-    lay_merged(s, b, flash, spare, &mut disk[at..end]);
+    lay_merged(s, b, flash, spare, &mut disk[place]);
     meter::spent(meter, z.p)
 }

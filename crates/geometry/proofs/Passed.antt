@@ -1,13 +1,14 @@
 -- What passed tests say of sizes and lent areas, and how large products of sizes are.
-use Prim.Native.Nat.{◌*◌, ◌≤◌}
+use Prim.Native.Nat.{ℕ, ◌*◌, ◌≤◌}
 use mathlib.Core.Path.{◌≡◌, refl}
-use mathlib.Core.Bool.{Bool, true, false}
+use mathlib.Core.Bool.{Bool, true, false, ◌&&◌}
 use mathlib.Core.List.{List, [], ◌∷◌, ◌++◌}
 use native.Mathlib.Nat.{mul-le-mul}
 use lib.ListN.{length}
 use lib.Dec.{eqb}
 use borrow.Author.Tests.{eqb-true}
 use Rattle.std.specs.Prelude.{if◌then◌else◌}
+use Rattle.lists.specs.Lists.{every}
 use Rattle.lists.proofs.Tests.{and_left, and_right, every_at}
 use Rattle.model.specs.declared.Sizes.{Sizes}
 use Rattle.model.specs.Sizes.{Device, limits, lengths, flash_size, spare_size, disk_size}
@@ -58,6 +59,30 @@ module _ (z : Sizes) (d : Device) (ts : List Test) where
       go true true = refl
       go true false = refl
       go false t = refl
+
+-- the chip's tests, and what the disk's length adds to them
+module _ (z : Sizes) (d : Device) where
+  abbrev pub chip : Device
+  chip = record { flash = d.flash; spare = d.spare; disk = [] }
+
+  pub chip_limits : first_failed (chip_tests z chip) ≡ 0 → Limits z
+  unfolding chip_tests
+  chip_limits h = limits_of z (first_passed 0 _ _ h).0
+
+  pub lent_first : first_failed (lent_tests z d)
+      ≡ (if eqb (first_failed (chip_tests z chip)) 0 then (if eqb (length d.disk) (disk_size z) then 0 else 2) else first_failed (chip_tests z chip))
+  unfolding lent_tests lengths every chip_tests chip_lengths first_failed
+  lent_first = go (limits z) (eqb (length d.flash) (flash_size z)) (eqb (length d.spare) (spare_size z)) (eqb (length d.disk) (disk_size z))
+    where
+      alone : (l f s : Bool) → ℕ
+      alone l f s = if l then (if f && s then 0 else 2) else 1
+
+      go : (l f s t : Bool) → ◌≡◌ {A = ℕ} (if l then (if f && (s && (t && true)) then 0 else 2) else 1) (if eqb (alone l f s) 0 then (if t then 0 else 2) else alone l f s)
+      go true true true true = refl
+      go true true true false = refl
+      go true true false t = refl
+      go true false s t = refl
+      go false f s t = refl
 
 -- products of sizes within the limits
 pub record Products (z : Sizes) : Type 0 where

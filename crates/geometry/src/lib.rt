@@ -3,14 +3,14 @@
 
 ghost use Rattle.std.specs.Prelude.{◌≡◌, [], ◌∷◌, ◌+◌, ◌≤◌, leb};
 ghost use Rattle.lists.specs.Lists.{every, within};
-ghost use Rattle.model.specs.Sizes.{limits, body, lengths, pages_for};
-ghost use Rattle.model.specs.Tests.{first_failed};
+ghost use Rattle.model.specs.Sizes.{limits, body, pages_for};
+ghost use Rattle.model.specs.Tests.{first_failed, number};
 ghost use Rattle.model.specs.Calls.{lent_tests};
 ghost use Rattle.model.specs.Mail.{chip_lengths, chip_tests};
 ghost use Rattle.model.proofs.Limits.{Limits};
 ghost use Rattle.geometry.specs.Geometry.{device};
 
-use model::Sizes;
+use model::{Refusal, Sizes};
 
 fn within(low: usize, high: usize, n: usize) -> bool
     ensures { result ≡ within low high n }
@@ -22,15 +22,7 @@ fn within(low: usize, high: usize, n: usize) -> bool
 fn queues_within(z: Sizes) -> bool
     ensures { result ≡ every (within 1 64 z.r ∷ within 1 64 z.w ∷ leb (z.r + z.w + 3) z.c ∷ []) }
 {
-    if within(1, 64, z.r) {
-        if within(1, 64, z.w) {
-            z.r + z.w + 3 <= z.c
-        } else {
-            false
-        }
-    } else {
-        false
-    }
+    within(1, 64, z.r) && within(1, 64, z.w) && z.r + z.w + 3 <= z.c
 }
 
 // Number 1.
@@ -56,34 +48,28 @@ fn chip_lengths(z: Sizes, flash: &[u8], spare: &[u8]) -> bool
     (flash.len() == z.c * (z.p * z.s)) & (spare.len() == z.c * z.p * 16)
 }
 
-// Number 2 of chip and disk.
-fn lengths(z: Sizes, flash: &[u8], spare: &[u8], disk: &[u8]) -> bool
-    requires { Limits z }
-    ensures { result ≡ lengths z (device flash.now spare.now disk.now) }
+// Numbers 1 and 2 of an entry that is lent the chip alone.
+pub fn check_chip(z: Sizes, flash: &[u8], spare: &[u8]) -> Result<(), Refusal>
+    ensures { number result ≡ first_failed (chip_tests z (device flash.now spare.now [])) }
 {
-    chip_lengths(z, flash, spare) & (disk.len() == z.b * (z.p * z.s))
+    if !limits(z) {
+        return Err(Refusal::Limits);
+    }
+    if !chip_lengths(z, flash, spare) {
+        return Err(Refusal::Lengths);
+    }
+    Ok(())
 }
 
-// The number of the first of the two that is not passed, or 0.
-pub fn lent_refusal(z: Sizes, flash: &[u8], spare: &[u8], disk: &[u8]) -> u8
-    ensures { result ≡ first_failed (lent_tests z (device flash.now spare.now disk.now)) }
+// Numbers 1 and 2 of chip and disk.
+pub fn check_lent(z: Sizes, flash: &[u8], spare: &[u8], disk: &[u8]) -> Result<(), Refusal>
+    ensures { number result ≡ first_failed (lent_tests z (device flash.now spare.now disk.now)) }
 {
-    if limits(z) {
-        if lengths(z, flash, spare, disk) { 0 } else { 2 }
-    } else {
-        1
+    check_chip(z, flash, spare)?;
+    if disk.len() != z.b * (z.p * z.s) {
+        return Err(Refusal::Lengths);
     }
-}
-
-// The same of an entry that is lent the chip alone.
-pub fn chip_refusal(z: Sizes, flash: &[u8], spare: &[u8]) -> u8
-    ensures { result ≡ first_failed (chip_tests z (device flash.now spare.now [])) }
-{
-    if limits(z) {
-        if chip_lengths(z, flash, spare) { 0 } else { 2 }
-    } else {
-        1
-    }
+    Ok(())
 }
 
 // The pages that a log of n bytes takes, where n is at most a bucket's.

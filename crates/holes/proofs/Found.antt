@@ -28,7 +28,9 @@ use Rattle.image.specs.Chip.{Headed}
 use Rattle.image.proofs.First.{kind-used, head_at}
 use Rattle.ledger.specs.Halves.{blank_there}
 use Rattle.ledger.proofs.Names.{names-kind}
-use Rattle.holes.specs.Found.{Speaks, found_epoch}
+use Rattle.std.specs.Prelude.{Option}
+use Rattle.rules.specs.Epochs.{some_if, PageEpoch}
+use Rattle.holes.specs.Found.{Speaks}
 use Rattle.holes.proofs.First.{used_first, head_speaks}
 
 -- ---- one bucket
@@ -60,20 +62,14 @@ found_headed z d p_low h c inside =
     rw head.is (found-kind z d c (all-below (body z) (found_fits z d) (every_at _ h 0) c inside) head.page head.inside)
 
 -- the bucket's epoch is that of the page that speaks for it
-module _ (z : Sizes) (d : Device) (c k : ℕ) (speaks : Speaks z d c k) where
-  pub epoch-none : programmed (tag_of z d c k) ≡ false → (0 ≡ found_epoch z d c) × (occupied z d c ≡ false)
-  unfolding found_epoch
-  epoch-none p = let e = speaks.tells ∙ p in (rw e, e)
-
-  pub epoch_said : found_fits z d c ≡ true → programmed (tag_of z d c k) ≡ true → (epoch (tag_of z d c k) ≡ found_epoch z d c) × (occupied z d c ≡ not (eqb (epoch (tag_of z d c k)) 0))
-  unfolding found_epoch first_epoch
-  epoch_said fit p =
-      let e = speaks.tells ∙ p in
-      (rw (e, speaks.is p), e ∙ sym (ap not (ne_eqb (epoch (tag_of z d c k)) 0 (λ q. omega (arith, (found-fields z d c fit k speaks.inside p).epoch_low)))))
-
-pub found-occupied : (z : Sizes) (d : Device) (c : ℕ) → occupied z d c ≡ true → found_epoch z d c ≡ first_epoch z d c
-unfolding found_epoch
-found-occupied z d c h = if_true _ _ h
+pub speaks_epoch : (z : Sizes) (d : Device) (c k : ℕ) (r : Option ℕ) → Speaks z d c k → found_fits z d c ≡ true → PageEpoch (tag_of z d c k) r
+    → r ≡ some_if (occupied z d c) (first_epoch z d c)
+unfolding first_epoch
+speaks_epoch z d c k r speaks fit said = said (found-kind z d c fit k speaks.inside) ∙ go (programmed (tag_of z d c k)) refl
+  where
+    go : (t : Bool) → programmed (tag_of z d c k) ≡ t → some_if t (epoch (tag_of z d c k)) ≡ some_if (occupied z d c) (first_epoch z d c)
+    go true p = rw (speaks.tells ∙ p, speaks.is p)
+    go false p = rw (speaks.tells ∙ p)
 
 -- ---- a chip with a blank ledger
 

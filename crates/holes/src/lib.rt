@@ -1,13 +1,14 @@
 // Number 4 of recovery: a named bucket may have holes, and its ordinals are not looked at. All other buckets are made by the page rules.
 #![tactic(auto)]
 
-ghost use Rattle.std.specs.Prelude.{◌≡◌, true, not, map, ◌<◌, eqb};
+ghost use Rattle.std.specs.Prelude.{◌≡◌, true, map, ◌<◌};
 ghost use Rattle.lists.specs.Lists.{all_below, keep, below, distinct};
 ghost use Rattle.model.specs.Sizes.{body};
 ghost use Rattle.model.specs.Ledger.{named, loose_fits, found_fits, occupied, first_epoch, recoverable};
 ghost use Rattle.image.specs.Chip.{Chip, spare_only};
 ghost use Rattle.ledger.specs.Marks.{Marks};
-ghost use Rattle.holes.specs.Found.{Speaks, found_epoch};
+ghost use Rattle.rules.specs.Epochs.{some_if};
+ghost use Rattle.holes.specs.Found.{Speaks};
 
 use model::Sizes;
 
@@ -18,14 +19,12 @@ fn first_page(z: Sizes, c: usize, spare: &[u8]) -> usize
     ensures { Speaks z (spare_only spare.now) c result }
 {
     let last = z.p - 1;
-    let mut k = 0;
-    while k < last {
+    for k in 0..last {
         if image::page_programmed(z, c, k, spare) {
             return k;
         }
-        k += 1;
     }
-    k
+    last
 }
 
 // The rules for a page of a named bucket: a programmed one says what the first of them does.
@@ -41,10 +40,9 @@ fn loose_page(z: Sizes, c: usize, first: usize, k: usize, spare: &[u8]) -> bool
     }
     let page = c * z.p + k;
     let f = spare::fields_at(spare, page);
-    let g = spare::fields_at(spare, c * z.p + first);
+    let head = spare::fields_at(spare, c * z.p + first);
     let zeroed = spare::zeroed(spare, page);
-    let shares = (f.kind == g.kind) & (f.epoch == g.epoch) & (f.back == g.back);
-    rules::fields_fit(z, f, zeroed) & shares
+    rules::fields_fit(z, f, zeroed) & rules::shares(head, f)
 }
 
 fn loose_fits(z: Sizes, c: usize, spare: &[u8]) -> bool
@@ -53,14 +51,7 @@ fn loose_fits(z: Sizes, c: usize, spare: &[u8]) -> bool
     ensures { result ≡ all_below z.p (loose_fits z (spare_only spare.now) c) }
 {
     let first = first_page(z, c, spare);
-    let mut k = 0;
-    while k < z.p {
-        if !loose_page(z, c, first, k, spare) {
-            return false;
-        }
-        k += 1;
-    }
-    true
+    (0..z.p).all(|k| loose_page(z, c, first, k, spare))
 }
 
 fn found_fits(z: Sizes, c: usize, marked: bool, spare: &[u8]) -> bool
@@ -81,15 +72,7 @@ fn all_found(z: Sizes, marks: &[bool; 256], spare: &[u8]) -> bool
     requires marks { Marks z (spare_only spare.now) marks.now }
     ensures { result ≡ all_below (body z) (found_fits z (spare_only spare.now)) }
 {
-    let end = geometry::body(z);
-    let mut c = 0;
-    while c < end {
-        if !found_fits(z, c, marks[c], spare) {
-            return false;
-        }
-        c += 1;
-    }
-    true
+    (0..geometry::body(z)).all(|c| found_fits(z, c, marks[c], spare))
 }
 
 // The page that speaks for a bucket. Of one that is not named it is the head: blank pages come only at the end there.
@@ -107,45 +90,26 @@ fn head_page(z: Sizes, c: usize, marked: bool, spare: &[u8]) -> usize
     }
 }
 
-// The epoch of a bucket, or 0. A page that fits is blank if it has no kind, and the bytes of a spoiled one mean nothing.
-fn found_epoch(z: Sizes, c: usize, marked: bool, spare: &[u8]) -> u32
+// The epoch of a bucket with a programmed page. A page that fits is blank if it has no kind.
+fn found_epoch(z: Sizes, c: usize, marked: bool, spare: &[u8]) -> Option<u32>
     requires chip { Chip z spare.now }
     requires c_lt_c { c < z.c }
     requires marked_value { marked ≡ named z (spare_only spare.now) c }
     requires c_value { found_fits z (spare_only spare.now) c ≡ true }
-    ensures value { result ≡ found_epoch z (spare_only spare.now) c }
-    ensures c_value_2 { occupied z (spare_only spare.now) c ≡ not (eqb result 0) }
+    ensures { result ≡ some_if (occupied z (spare_only spare.now) c) (first_epoch z (spare_only spare.now) c) }
 {
     let k = head_page(z, c, marked, spare);
-    let page = c * z.p + k;
-    let kind = spare::kind_at(spare, page);
-    if (kind != spare::NO_KIND) & (kind != spare::SPOILED_KIND) {
-        spare::epoch_at(spare, page)
-    } else {
-        0
-    }
+    rules::page_epoch(c * z.p + k, spare)
 }
 
-// No two buckets share an epoch. Every programmed page that fits has one above 0.
+// No two buckets share an epoch.
 fn found_differ(z: Sizes, marks: &[bool; 256], spare: &[u8]) -> bool
     requires chip { Chip z spare.now }
     requires marks { Marks z (spare_only spare.now) marks.now }
     requires spare_value { all_below (body z) (found_fits z (spare_only spare.now)) ≡ true }
     ensures { result ≡ distinct (map (first_epoch z (spare_only spare.now)) (keep (occupied z (spare_only spare.now)) (below (body z)))) }
 {
-    let end = geometry::body(z);
-    let mut epochs = [0u32; 256];
-    let mut n = 0;
-    let mut c = 0;
-    while c < end {
-        let epoch = found_epoch(z, c, marks[c], spare);
-        if epoch != 0 {
-            epochs[n] = epoch;
-            n += 1;
-        }
-        c += 1;
-    }
-    rules::all_differ(&epochs[..n])
+    rules::epochs_differ(geometry::body(z), |c| found_epoch(z, c, marks[c], spare))
 }
 
 // With a blank ledger no bucket is named: then the rules are those of a running call.

@@ -30,14 +30,12 @@ fn head_behind(z: Sizes, c: usize, spare: &[u8]) -> usize
     ensures { HeadAt z (spare_only spare.now) c result }
 {
     let last = z.p - 1;
-    let mut k = 0;
-    while k < last {
+    for k in 0..last {
         if spare::kind_at(spare, c * z.p + k) != spare::SPOILED_KIND {
             return k;
         }
-        k += 1;
     }
-    k
+    last
 }
 
 // The page that speaks for the bucket: the first that is not spoiled, or the last. Most often it is the first of all, and no loop is gone into.
@@ -87,8 +85,7 @@ pub fn used(z: Sizes, c: usize, spare: &[u8]) -> bool
     if first != spare::SPOILED_KIND {
         return first != spare::NO_KIND;
     }
-    let kind = head_kind(z, c, spare);
-    (kind != spare::NO_KIND) & (kind != spare::SPOILED_KIND)
+    spare::programmed_kind(head_kind(z, c, spare))
 }
 
 pub fn epoch_of(z: Sizes, c: usize, spare: &[u8]) -> u32
@@ -139,8 +136,7 @@ pub fn is_copy(z: Sizes, c: usize, spare: &[u8]) -> bool
     ensures { result ≡ is_copy z (spare_only spare.now) c }
 {
     let kind = head_kind(z, c, spare);
-    let real = (kind != spare::NO_KIND) & (kind != spare::SPOILED_KIND);
-    real & (kind != model::WRITE_KIND)
+    spare::programmed_kind(kind) & (kind != model::WRITE_KIND)
 }
 
 pub fn is_dirty(z: Sizes, c: usize, spare: &[u8]) -> bool
@@ -157,12 +153,7 @@ pub fn page_blank(z: Sizes, c: usize, k: usize, spare: &[u8]) -> bool
     requires k_lt_p { k < z.p }
     ensures { result ≡ page_blank z (spare_only spare.now) c k }
 {
-    let page = page_seen(z, c, k, spare);
-    match page {
-        Seen::Blank => true,
-        Seen::Spoiled => false,
-        Seen::Programmed(_) => false,
-    }
+    spare::blank_at(spare, c * z.p + k)
 }
 
 // A bucket that fits has blank pages alone if its first is blank, and that one is if it has no kind.
@@ -194,8 +185,7 @@ pub fn complete(z: Sizes, c: usize, spare: &[u8]) -> bool
     ensures { result ≡ complete z (spare_only spare.now) c }
 {
     let kind = spare::kind_at(spare, c * z.p);
-    let real = (kind != spare::NO_KIND) & (kind != spare::SPOILED_KIND);
-    real & (kind != model::WRITE_KIND) & ends_log(z, c, z.p - 1, spare)
+    spare::programmed_kind(kind) & (kind != model::WRITE_KIND) & ends_log(z, c, z.p - 1, spare)
 }
 
 // How many pages of a bucket that fits are not blank: those before the first that has no kind.
@@ -205,14 +195,12 @@ pub fn pages_used(z: Sizes, c: usize, spare: &[u8]) -> usize
     requires c_value { bucket_fits z (spare_only spare.now) c ≡ true }
     ensures { result ≡ z.p - blanks z (spare_only spare.now) c }
 {
-    let mut k = 0;
-    while k < z.p {
+    for k in 0..z.p {
         if spare::kind_at(spare, c * z.p + k) == spare::NO_KIND {
             return k;
         }
-        k += 1;
     }
-    k
+    z.p
 }
 
 // Whether the first k pages of a bucket that fits are not blank: the last of them has a kind.
@@ -253,12 +241,10 @@ pub fn blanks(z: Sizes, c: usize, spare: &[u8]) -> usize
     ensures { result ≡ blanks z (spare_only spare.now) c }
 {
     let mut count = 0;
-    let mut k = 0;
-    while k < z.p {
+    for k in 0..z.p {
         if page_blank(z, c, k, spare) {
             count += 1;
         }
-        k += 1;
     }
     count
 }

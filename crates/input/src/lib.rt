@@ -38,6 +38,7 @@ pub fn advance(
     ensures sound_2 { Sound result line.new buffer.new flash.new spare.new disk.new out.new × (w.passed < result.passed) × (result.passed ≤ length piece.now) }
 {
     let mut walk = w;
+    // no `for`: each step is as long as the line
     while walk.passed < piece.len() && drive::LONGEST_TEXT <= out.len() - walk.printed {
         let from = walk.passed;
         let end = lines::line_end(piece, from);

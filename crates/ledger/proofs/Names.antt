@@ -1,5 +1,5 @@
 -- The bucket that a page of the ledger names, and the marks of the named buckets.
-use Prim.Native.Nat.{ℕ, ◌+◌, ◌≤◌, ◌<◌}
+use Prim.Native.Nat.{ℕ, ◌+◌, ◌<◌}
 use mathlib.Core.Path.{◌≡◌, refl, sym, ap, ◌∙◌}
 use mathlib.Core.Bool.{Bool, true, false, ◌&&◌, ◌||◌, or-false}
 use mathlib.Core.List.{List}
@@ -49,16 +49,12 @@ module _ (z : Sizes) (d : Device) (i : ℕ) where
       go (yes e) = rw (← e) (own_fails h)
       go (no n) = names_other x n
 
-  pub names-holds : kind tag ≡ ledger_kind → holds_own ≡ true → (x : ℕ) → eqb x (back tag) ≡ names z d x i
+  pub names-holds : kind tag ≡ ledger_kind → holds_own ≡ true → (x : ℕ) → names z d x i ≡ eqb x (back tag)
   names-holds k h x = go (ℕ_discrete x (back tag))
     where
-      go : Dec (x ≡ back tag) → eqb x (back tag) ≡ names z d x i
-      go (yes e) = eq-eqb x (back tag) e ∙ rw e (sym (names_own k h))
-      go (no n) = ne_eqb x (back tag) n ∙ sym (names_other x (λ e. n (sym e)))
-
-  -- a page that does not name x does not give it
-  pub names-none : (x y : ℕ) → x < body z → y ≡ body z → names z d x i ≡ false → eqb x y ≡ names z d x i
-  names-none x y h e n = ne_eqb x y (λ q. omega arith) ∙ sym n
+      go : Dec (x ≡ back tag) → names z d x i ≡ eqb x (back tag)
+      go (yes e) = rw e (names_own k h ∙ sym (eq-eqb (back tag) (back tag) refl))
+      go (no n) = names_other x (λ e. n (sym e)) ∙ sym (ne_eqb x (back tag) n)
 
 -- ---- marks
 
@@ -69,32 +65,29 @@ no_marks n x = go (dec_lt x n)
     go (yes h) = get_or-replicate n x false false h
     go (no h) = get_or-eq_default (replicate n false) false (omega (arith, length-replicate n false))
 
-module _ (n : ℕ) (marks : List Bool) (y : ℕ) where
-  -- a mark for y, or none where y is not among the first n
-  pub mark_set : y < n → y < length marks → (x : ℕ) → get_or (set marks y true) x false ≡ (get_or marks x false || (ltb x n && eqb x y))
-  mark_set h g x = go (ℕ_discrete x y)
-    where
-      go : Dec (x ≡ y) → get_or (set marks y true) x false ≡ (get_or marks x false || (ltb x n && eqb x y))
-      go (yes e) = rw (e, lt-ltb y n h, eq-eqb y y refl) (get_or-set_same marks y true false g ∙ sym (or-true (get_or marks y false)))
-      go (no q) = rw (ne_eqb x y q, and_false (ltb x n)) (get_or-set_other marks y x true false q ∙ sym (or-false (get_or marks x false)))
-
-  pub mark-none : n ≤ y → (x : ℕ) → get_or marks x false ≡ (get_or marks x false || (ltb x n && eqb x y))
-  mark-none h x = go (dec_lt x n)
-    where
-      go : Dec (x < n) → get_or marks x false ≡ (get_or marks x false || (ltb x n && eqb x y))
-      go (yes g) = rw (ne_eqb x y (λ e. omega arith), and_false (ltb x n)) (sym (or-false (get_or marks x false)))
-      go (no g) = rw (le-ltb x n (omega arith)) (sym (or-false (get_or marks x false)))
-
-  -- the marks of one page more
-  pub marks_more : (t : (x i : ℕ) → Bool) (i : ℕ) (more : List Bool) → ((x : ℕ) → get_or more x false ≡ (get_or marks x false || (ltb x n && eqb x y)))
-      → ((x : ℕ) → x < n → eqb x y ≡ t x i) → ((x : ℕ) → get_or marks x false ≡ (ltb x n && any_below i (t x)))
-      → (x : ℕ) → get_or more x false ≡ (ltb x n && any_below (i + 1) (t x))
+-- the marks of the first i pages, and of one more
+module _ (n : ℕ) (marks : List Bool) (t : (x i : ℕ) → Bool) (i : ℕ) (before : (x : ℕ) → get_or marks x false ≡ (ltb x n && any_below i (t x))) where
+  unnamed : (x : ℕ) → (x < n → t x i ≡ false) → get_or marks x false ≡ (ltb x n && any_below (i + 1) (t x))
   unfolding any_below
-  marks_more t i more grown here before x = rw (add-one i) (grown x ∙ go (dec_lt x n))
+  unnamed x none = rw (add-one i) (before x ∙ go (dec_lt x n))
     where
-      go : Dec (x < n) → (get_or marks x false || (ltb x n && eqb x y)) ≡ (ltb x n && (any_below i (t x) || t x i))
-      go (yes h) = rw (before x, here x h, lt-ltb x n h)
-      go (no h) = rw (before x, le-ltb x n (omega arith))
+      go : Dec (x < n) → (ltb x n && any_below i (t x)) ≡ (ltb x n && (any_below i (t x) || t x i))
+      go (yes h) = rw (none h, or-false)
+      go (no h) = rw (le-ltb x n (omega arith))
+
+  -- that page names none
+  pub marks_same : ((x : ℕ) → x < n → t x i ≡ false) → (x : ℕ) → get_or marks x false ≡ (ltb x n && any_below (i + 1) (t x))
+  marks_same none x = unnamed x (none x)
+
+  -- it names y alone
+  pub marks_more : (y : ℕ) → y < n → y < length marks → ((x : ℕ) → x < n → t x i ≡ eqb x y)
+      → (x : ℕ) → get_or (set marks y true) x false ≡ (ltb x n && any_below (i + 1) (t x))
+  unfolding any_below
+  marks_more y inside room here x = go (ℕ_discrete x y)
+    where
+      go : Dec (x ≡ y) → get_or (set marks y true) x false ≡ (ltb x n && any_below (i + 1) (t x))
+      go (yes e) = rw (e, add-one i, lt-ltb y n inside, here y inside, eq-eqb y y refl, or-true) (get_or-set_same marks y true false room)
+      go (no q) = get_or-set_other marks y x true false q ∙ unnamed x (λ h. here x h ∙ ne_eqb x y q)
 
 pub mark_at : (z : Sizes) (d : Device) (marks : List Bool) → Marks z d marks → (x : ℕ) → x < body z → get_or marks x false ≡ named z d x
 mark_at z d marks m x h = m x ∙ rw (lt-ltb x (body z) h)

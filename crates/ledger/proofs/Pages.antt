@@ -187,12 +187,3 @@ module _ (z : Sizes) (spare : List ℕ) (l n : ℕ) (entered : Entered z (spare_
 
   pub half_split : half_fits z (spare_only spare) l ≡ all_below (z.p - n) (blank_from spare (l * z.p + n))
   half_split = same_truth _ _ split join
-
--- ---- loops that stop at a page that fails
-
-pub below_fails : (n : ℕ) (t : ℕ → Bool) (k : ℕ) → k < n → t k ≡ false → all_below n t ≡ false
-below_fails n t k h e = go (all_below n t) refl
-  where
-    go : (s : Bool) → all_below n t ≡ s → all_below n t ≡ false
-    go true q = absurd (true≢false (sym (all-below n t q k h) ∙ e))
-    go false q = q

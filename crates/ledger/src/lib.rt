@@ -11,7 +11,7 @@ ghost use Rattle.model.specs.Ledger.{is_entry, entry_fits, entries_fit, holds_ep
 ghost use Rattle.model.specs.State.{entry_epoch};
 ghost use Rattle.image.specs.Chip.{Chip, spare_only};
 ghost use Rattle.ledger.specs.Halves.{blank_there, Entered, half_fits};
-ghost use Rattle.ledger.specs.Marks.{Marks};
+ghost use Rattle.ledger.specs.Marks.{NamedBy, Marks};
 
 use model::Sizes;
 
@@ -43,14 +43,12 @@ fn entered(z: Sizes, l: usize, spare: &[u8]) -> usize
     ensures { Entered z (spare_only spare.now) l result }
 {
     let start = l * z.p;
-    let mut k = 0;
-    while k < z.p {
+    for k in 0..z.p {
         if !is_taken(z, start + k, spare) {
             return k;
         }
-        k += 1;
     }
-    k
+    z.p
 }
 
 // The pages behind those of a ledger bucket are tested at once: all must be blank.
@@ -90,15 +88,7 @@ pub fn entries_fit(z: Sizes, spare: &[u8]) -> bool
     requires { Chip z spare.now }
     ensures { result ≡ entries_fit z (spare_only spare.now) }
 {
-    let end = 2 * z.p;
-    let mut i = 0;
-    while i < end {
-        if !entry_fits(z, i, spare) {
-            return false;
-        }
-        i += 1;
-    }
-    true
+    (0..2 * z.p).all(|i| entry_fits(z, i, spare))
 }
 
 // Whether all pages of the ledger are blank.
@@ -138,15 +128,9 @@ pub fn top_entry(z: Sizes, spare: &[u8]) -> u64
     requires spare_value { entries_fit z (spare_only spare.now) ≡ true }
     ensures { result ≡ max_below (2 * z.p) (entry_epoch z (spare_only spare.now)) }
 {
-    let end = 2 * z.p;
-    let mut top = 0;
-    let mut i = 0;
-    while i < end {
-        let epoch = entry_epoch(z, i, spare) as u64;
-        i += 1;
-        if top < epoch {
-            top = epoch;
-        }
+    let mut top: u64 = 0;
+    for i in 0..2 * z.p {
+        top = top.max(entry_epoch(z, i, spare) as u64);
     }
     top
 }
@@ -172,36 +156,29 @@ fn bucket_holds(z: Sizes, x: usize, epoch: u32, spare: &[u8]) -> bool
     requires x_lt_c { x < z.c }
     ensures { result ≡ all_below z.p (holds_epoch z (spare_only spare.now) x epoch) }
 {
-    let mut k = 0;
-    while k < z.p {
-        if !page_holds(z, x, k, epoch, spare) {
-            return false;
-        }
-        k += 1;
-    }
-    true
+    (0..z.p).all(|k| page_holds(z, x, k, epoch, spare))
 }
 
-// The bucket outside the ledger that a page of the ledger names, or the ledger's lower one if it names none.
-fn named_by(z: Sizes, i: usize, spare: &[u8]) -> usize
+// The bucket outside the ledger that a page of the ledger names.
+fn named_by(z: Sizes, i: usize, spare: &[u8]) -> Option<usize>
     requires chip { Chip z spare.now }
     requires i_bound { i < 2 * z.p }
-    ensures { (x : ℕ) → x < body z → eqb x result ≡ names z (spare_only spare.now) x i }
+    ensures { NamedBy z (spare_only spare.now) i result }
 {
     let end = geometry::body(z);
     let page = end * z.p + i;
     if spare::kind_at(spare, page) != model::LEDGER_KIND {
-        return end;
+        return None;
     }
     let x = spare::back_at(spare, page) as usize;
     if end <= x {
-        return end;
+        return None;
     }
     let epoch = spare::epoch_at(spare, page);
     if bucket_holds(z, x, epoch, spare) {
-        x
+        Some(x)
     } else {
-        end
+        None
     }
 }
 
@@ -209,14 +186,9 @@ pub fn named(z: Sizes, spare: &[u8]) -> [bool; 256]
     requires { Chip z spare.now }
     ensures { Marks z (spare_only spare.now) result }
 {
-    let end = geometry::body(z);
-    let pages = 2 * z.p;
     let mut marks = [false; 256];
-    let mut i = 0;
-    while i < pages {
-        let x = named_by(z, i, spare);
-        i += 1;
-        if x < end {
+    for i in 0..2 * z.p {
+        if let Some(x) = named_by(z, i, spare) {
             marks[x] = true;
         }
     }

@@ -13,52 +13,45 @@ pub struct Line<'a> {
     pub field: usize,
 }
 
-pub fn start<'a>(text: &'a [u8]) -> Line<'a>
-    ensures { result ≡ at_start text.entry }
-{
-    Line {
-        text,
-        at: 0,
-        field: 0,
+impl<'a> Line<'a> {
+    pub fn start(text: &'a [u8]) -> Line<'a>
+        ensures { result ≡ at_start text.entry }
+    {
+        Line {
+            text,
+            at: 0,
+            field: 0,
+        }
+    }
+
+    // The walk goes on behind the next field, of so many bytes.
+    pub fn next(self, width: usize) -> Line<'a>
+        requires { self.at + width < 2 ^ 64 }
+        ensures { result ≡ behind self.entry width }
+    {
+        let field = field_at(self.text, self.at, width);
+        Line {
+            text: self.text,
+            at: self.at + width,
+            field,
+        }
+    }
+
+    // How many bytes are left.
+    pub fn left(self) -> usize
+        ensures { result ≡ length (drop self.entry.at (bytes_of self.entry.text.now)) }
+    {
+        (self.text.len() / 2).saturating_sub(self.at)
     }
 }
 
-// The work: the field at a byte of the frame, one byte or two wide.
+// The field at a byte of the frame, one byte or two wide.
 fn field_at(text: &[u8], at: usize, width: usize) -> usize
     ensures { result ≡ field_at (bytes_of text.now) at width }
 {
     if width == 1 {
-        let b = digits::byte_at(text, at);
-        b as usize
+        usize::from(digits::byte_at(text, at))
     } else {
         digits::number_at(text, at)
     }
-}
-
-// The walk goes on behind the next field, of so many bytes.
-pub fn next<'a>(line: Line<'a>, width: usize) -> Line<'a>
-    requires { line.at + width < 2 ^ 64 }
-    ensures { result ≡ behind line.entry width }
-{
-    let field = field_at(line.text, line.at, width);
-    Line {
-        text: line.text,
-        at: line.at + width,
-        field,
-    }
-}
-
-// The work: how many bytes stand from a byte of the frame on.
-fn left_at(text: &[u8], at: usize) -> usize
-    ensures { result ≡ length (drop at (bytes_of text.now)) }
-{
-    let bytes = text.len() / 2;
-    if at < bytes { bytes - at } else { 0 }
-}
-
-// How many bytes are left.
-pub fn left<'a>(line: Line<'a>) -> usize
-    ensures { result ≡ length (drop line.entry.at (bytes_of line.entry.text.now)) }
-{
-    left_at(line.text, line.at)
 }

@@ -10,14 +10,12 @@ pub fn line_end(piece: &[u8], from: usize) -> usize
     ensures lower_bound { (from ≤ result) × (result ≤ length piece.now) × (result < length piece.now → get_or piece.now result 0 ≡ 10) }
     ensures one_line { OneLine piece.now from result }
 {
-    let mut end = from;
-    while end < piece.len() {
-        if piece[end] == 10 {
+    for end in from..piece.len() {
+        if piece[end] == b'\n' {
             return end;
         }
-        end += 1;
     }
-    end
+    piece.len()
 }
 
 // More bytes of a line behind those that are held of it, as many as there is room for: how many are then held.
@@ -25,12 +23,7 @@ pub fn gather(line: &mut [u8], held: usize, bytes: &[u8]) -> usize
     requires { held ≤ length line.old }
     ensures { (result ≤ length line.old) × (take result line.new ≡ take (length line.old) (take held line.old ++ bytes.now)) }
 {
-    let most = line.len();
-    let room = most - held;
-    if bytes.len() <= room {
-        area::write_at(line, held, bytes);
-        return held + bytes.len();
-    }
-    area::write_at(line, held, &bytes[..room]);
-    most
+    let taken = bytes.len().min(line.len() - held);
+    area::write_at(line, held, &bytes[..taken]);
+    held + taken
 }

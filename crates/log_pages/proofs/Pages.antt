@@ -3,10 +3,10 @@ use Prim.Native.Nat.{ℕ, ◌+◌, ◌-◌, ◌*◌, ◌≤◌, ◌<◌}
 use mathlib.Core.Path.{◌≡◌, sym, ap, ◌∙◌}
 use mathlib.Core.List.{List, ◌++◌}
 use native.Mathlib.Omega.{arith}
-use native.Mathlib.Nat.{zero-add, mul-le-mul_right}
+use native.Mathlib.Nat.{mul-le-mul_right}
 use lib.ListN.{length, take, drop, length-drop}
 use lib.Seq.{take_all, take-append-le, take-append-add}
-use Rattle.lists.specs.Lists.{splice, part, ff}
+use Rattle.lists.specs.Lists.{part, ff}
 use Rattle.lists.proofs.Parts.{part-ff, length-ff}
 use Rattle.model.specs.declared.Sizes.{Sizes}
 use Rattle.model.specs.Sizes.{pages_for}
@@ -44,14 +44,11 @@ pub front_ff : (s n : ℕ) → n ≤ s → take n (ff s) ≡ ff n
 unfolding part
 front_ff s n h = part-ff s 0 n (omega arith)
 
--- bytes laid over the front of FF
-laid : (s : ℕ) (l : List ℕ) → length l ≤ s → splice (ff s) 0 l ≡ take s (l ++ ff s)
-unfolding splice
-laid s l h =
+-- the front of a list, past the end of its first part
+front-append : (s : ℕ) (l m : List ℕ) → length l ≤ s → take s (l ++ m) ≡ l ++ take (s - length l) m
+front-append s l m h =
     let split : s ≡ length l + (s - length l) = omega arith in
-    rw (zero-add (length l), rest-ff s (length l) h)
-    (sym (ap (λ (k : ℕ). take k (l ++ ff s)) split ∙ take-append-add l (ff s) (s - length l)
-    ∙ ap (λ (m : List ℕ). l ++ m) (front_ff s (s - length l) (omega arith))))
+    ap (λ (n : ℕ). take n (l ++ m)) split ∙ take-append-add l m (s - length l)
 
 module _ (z : Sizes) (bytes : List ℕ) (o : ℕ) where
   -- a whole page is a part of the log
@@ -59,9 +56,12 @@ module _ (z : Sizes) (bytes : List ℕ) (o : ℕ) where
   unfolding part page_bytes
   page_whole h = sym (take-append-le z.s (drop (o * z.s) bytes) (ff z.s) (simp length-drop (omega arith)))
 
-  -- the last one is what there is of its bytes, laid over a page of FF
-  pub page_laid : length bytes ≤ o * z.s + z.s → splice (ff z.s) 0 (take (length bytes - o * z.s) (drop (o * z.s) bytes)) ≡ page_bytes z bytes o
+  -- the last one is what there is of its bytes, laid over FF
+  pub page_laid : length bytes ≤ o * z.s + z.s → z.s ≤ 1024 → take z.s (drop (o * z.s) bytes ++ drop (length (drop (o * z.s) bytes)) (ff 1024)) ≡ page_bytes z bytes o
   unfolding page_bytes
-  page_laid h =
+  page_laid h k =
       let rest = drop (o * z.s) bytes in
-      ap (splice (ff z.s) 0) (take_all (length bytes - o * z.s) rest (simp length-drop (omega arith))) ∙ laid z.s rest (simp length-drop (omega arith))
+      let n = length rest in
+      let short : n ≤ z.s = simp length-drop (omega arith) in
+      rw (front-append z.s rest (drop n (ff 1024)) short, front-append z.s rest (ff z.s) short, rest-ff 1024 n (omega arith))
+      (ap (λ (m : List ℕ). rest ++ m) (front_ff (1024 - n) (z.s - n) (omega arith) ∙ sym (front_ff z.s (z.s - n) (omega arith))))

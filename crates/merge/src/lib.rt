@@ -4,7 +4,7 @@
 // copied.
 #![tactic(auto)]
 
-ghost use Rattle.std.specs.Prelude.{◌≡◌, List, ℕ, ◌+◌, ◌≤◌, ◌<◌, min, length};
+ghost use Rattle.std.specs.Prelude.{◌≡◌, List, ℕ, ◌+◌, ◌≤◌, ◌<◌, length};
 ghost use Rattle.lists.specs.Lists.{splice};
 ghost use Rattle.model.specs.Sizes.{bucket_size, flash_size, body};
 ghost use Rattle.model.specs.Image.{merge_to, merge};
@@ -14,20 +14,14 @@ ghost use Rattle.overlay.specs.Window.{Turns, Readable, chip, LogPlace, log_part
 use model::Sizes;
 use spare::{Fields, Seen};
 
-pub fn smaller(a: usize, b: usize) -> usize
-    ensures { result ≡ min a b }
-{
-    if a < b { a } else { b }
-}
-
 // Lays bytes, which belong into the whole from index `at` on, over the window, which shows the whole from index `from` on.
 fn lay(from: usize, at: usize, bytes: &[u8], window: &mut [u8])
     requires window_bound { from + length window.old ≤ 65536 }
     requires bytes_bound { at + length bytes.now ≤ 65536 }
     ensures { (whole : List ℕ) → from + length window.old ≤ length whole → at + length bytes.now ≤ length whole → Turns from whole (splice whole at bytes.now) window.old window.new }
 {
-    let start = overlay::larger(from, at);
-    let end = smaller(from + window.len(), at + bytes.len());
+    let start = from.max(at);
+    let end = (from + window.len()).min(at + bytes.len());
     if end <= start {
         return;
     }
@@ -88,9 +82,7 @@ pub fn merge_range(z: Sizes, c: usize, from: usize, flash: &[u8], spare: &[u8], 
     ensures { (base : List ℕ) → length base ≡ bucket_size z → Turns from base (merge z (chip flash.now spare.now) c base) window.old window.new }
 {
     let end = image::pages_used(z, c, spare);
-    let mut k = 0;
-    while k < end {
+    for k in 0..end {
         lay_page(z, c, k, from, flash, spare, window);
-        k += 1;
     }
 }

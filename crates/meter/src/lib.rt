@@ -44,14 +44,13 @@ pub fn store(
     ensures result_after { running flash.new spare.new disk.new result ≡ step z (made what «data».now tag.now) (running flash.old spare.old disk.old meter) }
     ensures lent_2 { Lent z flash.new spare.new disk.new }
 {
-    let left = meter.left;
-    if left == 0 {
+    if meter.left == 0 {
         return Meter { left: 0, cut: true };
     }
     device::carry_out(what, z, data, tag, flash, spare, disk);
     Meter {
-        left: left - 1,
-        cut: meter.cut,
+        left: meter.left - 1,
+        ..meter
     }
 }
 
@@ -59,16 +58,17 @@ pub fn store(
 pub fn allowed(meter: Meter, n: usize) -> usize
     ensures { result ≡ allowed n meter }
 {
-    if meter.left < n { meter.left } else { n }
+    meter.left.min(n)
 }
 
 // The allowance once they were made, and the rest of the n asked for.
 pub fn spent(meter: Meter, n: usize) -> Meter
     ensures { result ≡ spent n meter }
 {
-    let left = meter.left - allowed(meter, n);
-    let cut = meter.cut | (meter.left < n);
-    Meter { left, cut }
+    Meter {
+        left: meter.left.saturating_sub(n),
+        cut: meter.cut | (meter.left < n),
+    }
 }
 
 // Erases a bucket of the chip.

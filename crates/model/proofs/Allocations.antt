@@ -11,8 +11,7 @@ use Rattle.lists.specs.Lists.{empty, all}
 use Rattle.lists.proofs.Tests.{true_or_false, and-true}
 use Rattle.lists.proofs.Arrays.{all_append}
 use Rattle.model.specs.declared.Sizes.{Sizes}
-use Rattle.model.specs.declared.Victim.{Victim}
-use Rattle.model.specs.declared.Victim.TheVariants.{Nobody, Bucket}
+use Rattle.std.specs.Prelude.{Option, Some, None}
 use Rattle.model.specs.Sizes.{Device, pages_for}
 use Rattle.model.specs.Stores.{apply_all}
 use Rattle.model.specs.Spare.{dirty_kind}
@@ -57,24 +56,24 @@ module _ (s : State) (d : Device) (pass : Passed s d) where
 
   -- ---- a write
 
-  evict_finds : (v : Victim) → all (finds_bucket s d) (evict_allocations v s) ≡ true
+  evict_finds : (v : Option ℕ) → all (finds_bucket s d) (evict_allocations v s) ≡ true
   unfolding evict_allocations all
-  evict_finds Nobody = refl
-  evict_finds (Bucket v) = go (true_or_false (is_marked v s.writes)) (true_or_false (holds v s.reads))
+  evict_finds None = refl
+  evict_finds (Some v) = go (true_or_false (is_marked v s.writes)) (true_or_false (holds v s.reads))
     where
       go : (is_marked v s.writes ≡ true) ⊎ (is_marked v s.writes ≡ false) → (holds v s.reads ≡ true) ⊎ (holds v s.reads ≡ false)
-          → all (finds_bucket s d) (evict_allocations (Bucket v) s) ≡ true
+          → all (finds_bucket s d) (evict_allocations (Some v) s) ≡ true
       go (inl m) h = rw m
       go (inr m) (inl h) = rw (m, h) (and-true finds_at_once refl)
       go (inr m) (inr h) = rw (m, h)
 
-  evict_next : (v : Victim) → (evict_any s.sizes v s d).state.next ≡ s.next + length (evict_allocations v s)
+  evict_next : (v : Option ℕ) → (evict_any s.sizes v s d).state.next ≡ s.next + length (evict_allocations v s)
   unfolding evict_allocations evict_any nothing evict ◌then◌ move drop_write write_out moved
-  evict_next Nobody = omega arith
-  evict_next (Bucket v) = go (true_or_false (is_marked v s.writes)) (true_or_false (holds v s.reads))
+  evict_next None = omega arith
+  evict_next (Some v) = go (true_or_false (is_marked v s.writes)) (true_or_false (holds v s.reads))
     where
       go : (is_marked v s.writes ≡ true) ⊎ (is_marked v s.writes ≡ false) → (holds v s.reads ≡ true) ⊎ (holds v s.reads ≡ false)
-          → (evict_any z (Bucket v) s d).state.next ≡ s.next + length (evict_allocations (Bucket v) s)
+          → (evict_any z (Some v) s d).state.next ≡ s.next + length (evict_allocations (Some v) s)
       go (inl m) h = rw m (omega arith)
       go (inr m) (inl h) = rw (m, h) (copy_next z dirty_kind v (merged z s d v) s d (some s d pass))
       go (inr m) (inr h) = rw (m, h) (omega arith)

@@ -94,3 +94,4 @@ pub mod MailOrder
 pub mod MailTheorem
 pub mod Told
 pub mod OneLeaves
+pub mod Refusals

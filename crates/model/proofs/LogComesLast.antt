@@ -13,8 +13,7 @@ use Rattle.lists.specs.Lists.{head, empty, row, all}
 use Rattle.lists.proofs.Tests.{true_or_false}
 use Rattle.model.specs.declared.Sizes.{Sizes}
 use Rattle.model.specs.declared.Answer.TheVariants.{Done}
-use Rattle.model.specs.declared.Victim.{Victim}
-use Rattle.model.specs.declared.Victim.TheVariants.{Nobody, Bucket}
+use Rattle.std.specs.Prelude.{Option, Some, None}
 use Rattle.model.specs.Sizes.{Device, pages_for}
 use Rattle.model.specs.Stores.{Store, program, erase, unit, apply_all, unit_stores}
 use Rattle.model.specs.Spare.{write_kind, dirty_kind, kind, tag_bytes, entry_tag}
@@ -92,10 +91,10 @@ module _ (z : Sizes) where
       go (inr m) (inl h) = rw (m, h) (then_makes_way (copy z dirty_kind v (merged z s d v)) (move (drop_write v)) s d (copy-makes_way v (merged z s d v) s d) (λ t e. refl))
       go (inr m) (inr h) = rw (m, h) (then_makes_way (write_out z v (merged z s d v)) (move (drop_write v)) s d (none-makes_way (unit_stores z v (merged z s d v)) (none_units z v (merged z s d v))) (λ t e. refl))
 
-  any-makes_way : (v : Victim) (s : State) (d : Device) → all makes_way (evict_any z v s d).stores ≡ true
+  any-makes_way : (v : Option ℕ) (s : State) (d : Device) → all makes_way (evict_any z v s d).stores ≡ true
   unfolding evict_any nothing all
-  any-makes_way Nobody s d = refl
-  any-makes_way (Bucket v) s d = evict-makes_way v s d
+  any-makes_way None s d = refl
+  any-makes_way (Some v) s d = evict-makes_way v s d
 
 -- ---- a write
 

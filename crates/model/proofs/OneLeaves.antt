@@ -9,14 +9,12 @@ use lib.ListN.{length, drop, length-append}
 use lib.Seq.{drop_at}
 use lib.Dec.{leb, eqb}
 use borrow.Author.Tests.{eqb-true}
-use Rattle.std.specs.Prelude.{if◌then◌else◌}
+use Rattle.std.specs.Prelude.{if◌then◌else◌, Option, Some, None}
 use Rattle.lists.specs.Lists.{head}
 use Rattle.lists.proofs.Tests.{true_or_false, every_at}
 use Rattle.lists.proofs.Rows.{map_append}
 use Rattle.model.specs.declared.Sizes.{Sizes}
 use Rattle.model.specs.declared.Entry.{Entry}
-use Rattle.model.specs.declared.Victim.{Victim}
-use Rattle.model.specs.declared.Victim.TheVariants.{Nobody, Bucket}
 use Rattle.model.specs.Sizes.{Device, pages_for}
 use Rattle.model.specs.Stores.{apply_all}
 use Rattle.model.specs.Spare.{dirty_kind}
@@ -97,10 +95,10 @@ module _ (s : State) (d : Device) (pass : Passed s d) where
       go (inr m) (inl r) = rw (m, r) (dropped v _ (copy_writes z dirty_kind v (merged z s d v) s d (some s d pass)))
       go (inr m) (inr r) = rw (m, r) (dropped v s refl)
 
-  way_left : (o : Victim) → (evict_any s.sizes o s d).state.writes ≡ less o s.writes
+  way_left : (o : Option ℕ) → (evict_any s.sizes o s d).state.writes ≡ less o s.writes
   unfolding evict_any nothing less
-  way_left Nobody = refl
-  way_left (Bucket v) = (evict_sends v).left
+  way_left None = refl
+  way_left (Some v) = (evict_sends v).left
 
   -- ---- the write
 
@@ -122,21 +120,21 @@ module _ (s : State) (d : Device) (pass : Passed s d) where
             (start_kept z b off bytes (make_room z t e).state _
             ∙ ap (λ (l : List Entry). map mapping l ++ ((b, head (make_room z t e).state.free) ∷ [])) ((room_there z t e (way_opens s d pass b).some_there).writes_same ∙ way_left (outgoing z d b s)))
 
-    one : (o : Victim) → length s.writes ≤ length (less o s.writes) + 1
+    one : (o : Option ℕ) → length s.writes ≤ length (less o s.writes) + 1
     unfolding less state_fits
-    one Nobody = omega arith
-    one (Bucket v) = length-distinct s.writes v (every_at _ pass.state_fits_lem 4)
+    one None = omega arith
+    one (Some v) = length-distinct s.writes v (every_at _ pass.state_fits_lem 4)
 
-    sends : (v : ℕ) → victim_of b (length bytes) s d ≡ Bucket v
+    sends : (v : ℕ) → victim_of b (length bytes) s d ≡ Some v
         → (holds v s.writes ≡ true) × (drop (length (make_way s.sizes b s d).state.gc - 1) (make_way s.sizes b s d).state.gc ≡ cache_of v s.writes ∷ [])
     unfolding victim_of make_way evict_any
     sends v = go (true_or_false (fits z d b (pages_for z (length bytes)) s))
       where
-        go : (fits z d b (pages_for z (length bytes)) s ≡ true) ⊎ (fits z d b (pages_for z (length bytes)) s ≡ false) → victim_of b (length bytes) s d ≡ Bucket v
+        go : (fits z d b (pages_for z (length bytes)) s ≡ true) ⊎ (fits z d b (pages_for z (length bytes)) s ≡ false) → victim_of b (length bytes) s d ≡ Some v
             → (holds v s.writes ≡ true) × (drop (length (make_way z b s d).state.gc - 1) (make_way z b s d).state.gc ≡ cache_of v s.writes ∷ [])
-        go (inl q) e = let is : Nobody ≡ Bucket v = rw q at e in let never : ◌≡◌ {A = ℕ} 0 1 = cc in absurd (omega arith)
+        go (inl q) e = let is : None ≡ Some v = rw q at e in let never : ◌≡◌ {A = ℕ} 0 1 = cc in absurd (omega arith)
         go (inr q) e =
-            let out : outgoing z d b s ≡ Bucket v = rw q at e in
+            let out : outgoing z d b s ≡ Some v = rw q at e in
             let held = outgoing_held z d b v s (bounds s d pass).w_low out in
             rw out (held, (evict_sends v).sent held)
 

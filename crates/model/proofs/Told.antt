@@ -10,7 +10,7 @@ use lib.Dec.{ltb, eqb}
 use borrow.Author.Tests.{le-ltb, lt-ltb}
 use Rattle.lists.proofs.Tests.{true_or_false}
 use Rattle.model.specs.declared.Answer.TheVariants.{Done, Cut, Refused}
-use Rattle.model.specs.declared.Victim.TheVariants.{Nobody}
+use Rattle.std.specs.Prelude.{None}
 use Rattle.model.specs.Sizes.{Device}
 use Rattle.model.specs.State.{State}
 use Rattle.model.specs.Calls.{Call, is_done, is_cut, write_call, refusal, plan_of, done_answer, carry_out, turned_down, call}
@@ -36,7 +36,7 @@ module _ (b off : ℕ) (bytes : List ℕ) (s : State) (d : Device) where
   taken_up r = rw (r, enough)
 
   turned_down_lem : eqb (refusal (write_call b off bytes) s d) 0 ≡ false
-      → preview_of b off bytes s d ≡ record { answer = Refused (refusal (write_call b off bytes) s d); stores = 0; victim = Nobody; next = s.next }
+      → preview_of b off bytes s d ≡ record { answer = Refused (refusal (write_call b off bytes) s d); stores = 0; victim = None; next = s.next }
   unfolding preview_of call turned_down is_done
   turned_down_lem r = rw r
 

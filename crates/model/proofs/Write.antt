@@ -9,12 +9,11 @@ use native.Mathlib.Decide.{ℕ_discrete}
 use lib.ListN.{length}
 use lib.Dec.{leb}
 use borrow.Author.Tests.{leb-true, leb-false}
-use Rattle.std.specs.Prelude.{if◌then◌else◌}
+use Rattle.std.specs.Prelude.{if◌then◌else◌, Some, None}
 use Rattle.lists.specs.Lists.{splice}
 use Rattle.lists.proofs.Tests.{true_or_false, and_left, and_right}
 use Rattle.model.specs.declared.Sizes.{Sizes}
 use Rattle.model.specs.declared.Entry.{Entry}
-use Rattle.model.specs.declared.Victim.TheVariants.{Nobody, Bucket}
 use Rattle.model.specs.Sizes.{Device, limits, pages_for}
 use Rattle.model.specs.Stores.{apply_all}
 use Rattle.model.specs.Image.{blanks}
@@ -67,19 +66,19 @@ module _ (z : Sizes) (d : Device) where
   victim_in (e ∷ l) h = least_in e l
 
 -- what gives way is held
-pub outgoing_held : (z : Sizes) (d : Device) (b v : ℕ) (s : State) → 1 ≤ z.w → outgoing z d b s ≡ Bucket v → holds v s.writes ≡ true
+pub outgoing_held : (z : Sizes) (d : Device) (b v : ℕ) (s : State) → 1 ≤ z.w → outgoing z d b s ≡ Some v → holds v s.writes ≡ true
 unfolding outgoing
 outgoing_held z d b v s some e = go (true_or_false (holds b s.writes)) (true_or_false (leb z.w (length s.writes)))
   where
     go : (holds b s.writes ≡ true) ⊎ (holds b s.writes ≡ false) → (leb z.w (length s.writes) ≡ true) ⊎ (leb z.w (length s.writes) ≡ false)
         → holds v s.writes ≡ true
-    go (inl h) q = let is : Bucket b ≡ Bucket v = rw h at e in let same : b ≡ v = cc in rw (← same) h
+    go (inl h) q = let is : Some b ≡ Some v = rw h at e in let same : b ≡ v = cc in rw (← same) h
     go (inr n) (inl q) =
-        let is : Bucket (victim z d s.writes) ≡ Bucket v = rw (n, q) at e in
+        let is : Some (victim z d s.writes) ≡ Some v = rw (n, q) at e in
         let same : victim z d s.writes ≡ v = cc in
         rw (← same) (victim_in z d s.writes (omega (arith, leb-true z.w (length s.writes) q)))
     go (inr n) (inr q) =
-        let is : Nobody ≡ Bucket v = rw (n, q) at e in
+        let is : None ≡ Some v = rw (n, q) at e in
         let never : ◌≡◌ {A = ℕ} 0 1 = cc in
         absurd (omega arith)
 

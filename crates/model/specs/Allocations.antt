@@ -1,9 +1,7 @@
 -- Allocate always finds a bucket: one claim about every allocation that a write or a read makes, whatever state, chip and disk it is given.
 -- No other call allocates.
-use Rattle.std.specs.Prelude.{ℕ, ◌+◌, ◌≡◌, Bool, true, not, List, [], ◌∷◌, ◌++◌, length, ltb, if◌then◌else◌}
+use Rattle.std.specs.Prelude.{ℕ, ◌+◌, ◌≡◌, Bool, true, not, List, [], ◌∷◌, ◌++◌, length, ltb, if◌then◌else◌, Option, Some, None}
 use Rattle.lists.specs.Lists.{empty, all}
-use Rattle.model.specs.declared.Victim.{Victim}
-use Rattle.model.specs.declared.Victim.TheVariants.{Nobody, Bucket}
 use Rattle.model.specs.Sizes.{Device, pages_for}
 use Rattle.model.specs.State.{State, holds, is_marked}
 use Rattle.model.specs.Steps.{Plan, Step, nothing, ◌then◌, make_room}
@@ -13,9 +11,9 @@ use Rattle.model.specs.Calls.{read_call, write_call, refusal, plan_of}
 -- ---- where a plan allocates: the steps from its start that an allocation follows
 
 -- an eviction: for its copy, if there is a read bucket and not all logs are in it
-unfoldable pub evict_allocations : Victim → State → List Step
-evict_allocations Nobody s = []
-evict_allocations (Bucket v) s = if is_marked v s.writes then [] else (if holds v s.reads then nothing ∷ [] else [])
+unfoldable pub evict_allocations : Option ℕ → State → List Step
+evict_allocations None s = []
+evict_allocations (Some v) s = if is_marked v s.writes then [] else (if holds v s.reads then nothing ∷ [] else [])
 
 -- a write: for its eviction, and behind that for its log, if the queued Write bucket has no room for it
 unfoldable pub write_allocations : (b n : ℕ) → State → Device → List Step

@@ -1,10 +1,8 @@
 -- Write, read, drain and format: each a step, or a plan from nothing.
-use Rattle.std.specs.Prelude.{ℕ, ◌+◌, ◌-◌, ◌/◌, Bool, true, false, not, ◌&&◌, ◌||◌, List, [], ◌∷◌, ◌++◌, map, length, drop, get_or, leb, ltb, eqb, if◌then◌else◌}
+use Rattle.std.specs.Prelude.{ℕ, ◌+◌, ◌-◌, ◌/◌, Bool, true, false, not, ◌&&◌, ◌||◌, List, [], ◌∷◌, ◌++◌, map, length, drop, get_or, leb, ltb, eqb, if◌then◌else◌, Option, Some, None}
 use Rattle.lists.specs.Lists.{below, head, keep, concat_map, sort_by}
 use Rattle.model.specs.declared.Sizes.{Sizes}
 use Rattle.model.specs.declared.Entry.{Entry}
-use Rattle.model.specs.declared.Victim.{Victim}
-use Rattle.model.specs.declared.Victim.TheVariants.{Nobody, Bucket}
 use Rattle.model.specs.Sizes.{Device, body, pages_for}
 use Rattle.model.specs.Stores.{Store, erase, bucket_bytes, unit_stores}
 use Rattle.model.specs.Spare.{read_kind, write_kind, dirty_kind}
@@ -68,16 +66,16 @@ module _ (z : Sizes) (d : Device) where
 
   -- "if the back-end bucket is in the write queue without enough blank pages, evict its bucket. If it is absent and the queue is full, evict the
   -- smallest priority, then smallest epoch; the arrival is no candidate."
-  unfoldable pub outgoing : ℕ → State → Victim
+  unfoldable pub outgoing : ℕ → State → Option ℕ
   outgoing b s =
-      if holds b s.writes then Bucket b
-      else (if leb (quota z s b) (length (rivals s b)) then Bucket (victim (rivals s b)) else Nobody)
+      if holds b s.writes then Some b
+      else (if leb (quota z s b) (length (rivals s b)) then Some (victim (rivals s b)) else None)
 
 module _ (z : Sizes) where
   -- what gives way, if anything does, is evicted
-  unfoldable pub evict_any : Victim → Step
-  evict_any Nobody = nothing
-  evict_any (Bucket v) = evict z v
+  unfoldable pub evict_any : Option ℕ → Step
+  evict_any None = nothing
+  evict_any (Some v) = evict z v
 
   unfoldable pub make_way : ℕ → Step
   make_way b s d = evict_any (outgoing z d b s) s d

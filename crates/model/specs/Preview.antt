@@ -1,10 +1,8 @@
 -- "What would this write do?": the preview of a write, and two claims about it, whatever state, chip and disk it is given.
-use Rattle.std.specs.Prelude.{ℕ, ◌+◌, ◌-◌, ◌≤◌, ◌<◌, ◌≡◌, true, false, List, [], ◌∷◌, ◌++◌, map, length, drop, if◌then◌else◌}
+use Rattle.std.specs.Prelude.{ℕ, ◌+◌, ◌-◌, ◌≤◌, ◌<◌, ◌≡◌, true, false, List, [], ◌∷◌, ◌++◌, map, length, drop, if◌then◌else◌, Option, Some, None}
 use Rattle.lists.specs.Lists.{head}
 use Rattle.model.specs.declared.Entry.{Entry}
 use Rattle.model.specs.declared.Answer.TheVariants.{Cut, Refused}
-use Rattle.model.specs.declared.Victim.{Victim}
-use Rattle.model.specs.declared.Victim.TheVariants.{Nobody, Bucket}
 use Rattle.model.specs.declared.Preview.{Preview}
 use Rattle.model.specs.Sizes.{Device, pages_for}
 use Rattle.model.specs.State.{State, holds, cache_of, without}
@@ -13,8 +11,8 @@ use Rattle.model.specs.Operations.{fits, outgoing, make_way}
 use Rattle.model.specs.Calls.{is_done, is_cut, write_call, refusal, plan_of, call}
 
 -- "victim if any (the back-end bucket whose Write bucket it sends to GC, its own too)", of a write of n bytes to b
-unfoldable pub victim_of : (b n : ℕ) → State → Device → Victim
-victim_of b n s d = if fits s.sizes d b (pages_for s.sizes n) s then Nobody else outgoing s.sizes d b s
+unfoldable pub victim_of : (b n : ℕ) → State → Device → Option ℕ
+victim_of b n s d = if fits s.sizes d b (pages_for s.sizes n) s then None else outgoing s.sizes d b s
 
 -- "A preview of a write gives its answer, store count, victim if any .. and next epoch, equal to running that write with a sufficient allowance": with
 -- one of as many stores as it plans. It hands back nothing else, so "it alters none" of state, chip and disk.
@@ -25,7 +23,7 @@ preview_of b off bytes s d =
     record {
       answer = o.answer;
       stores = o.stores;
-      victim = if is_done o.answer then victim_of b (length bytes) s d else Nobody;
+      victim = if is_done o.answer then victim_of b (length bytes) s d else None;
       next = o.state.next;
     }
 
@@ -41,7 +39,7 @@ pub record Tells (b off : ℕ) (bytes : List ℕ) (s : State) (d : Device) : Typ
   pub falls_short : (n : ℕ) → n < (preview_of b off bytes s d).stores → (call n (write_call b off bytes) s d).answer ≡ Cut
   -- "It refuses just as the write does."
   pub refuses : (n r : ℕ) → (call n (write_call b off bytes) s d).answer ≡ Refused r
-      → preview_of b off bytes s d ≡ record { answer = Refused r; stores = 0; victim = Nobody; next = s.next }
+      → preview_of b off bytes s d ≡ record { answer = Refused r; stores = 0; victim = None; next = s.next }
   pub never_cut : is_cut (preview_of b off bytes s d).answer ≡ false
 
 unfoldable pub PreviewTells : Type 0
@@ -54,9 +52,9 @@ unfoldable pub mapping : Entry → ℕ × ℕ
 mapping e = (e.back, e.cache)
 
 -- the write queue without the victim's record
-unfoldable pub less : Victim → List Entry → List Entry
-less Nobody l = l
-less (Bucket v) l = without v l
+unfoldable pub less : Option ℕ → List Entry → List Entry
+less None l = l
+less (Some v) l = without v l
 
 -- what the log's own bucket adds to the write queue, where one is taken
 unfoldable pub arrival : (b n : ℕ) → State → Device → List (ℕ × ℕ)
@@ -73,7 +71,7 @@ pub record Leaves (b off : ℕ) (bytes : List ℕ) (s : State) (d : Device) : Ty
   -- a victim has a Write bucket, and it is the last of the GC queue before the log's bucket is allocated
   pub sends : (v : ℕ)
       → let gc = (make_way s.sizes b s d).state.gc in
-      victim_of b (length bytes) s d ≡ Bucket v → (holds v s.writes ≡ true) × (drop (length gc - 1) gc ≡ cache_of v s.writes ∷ [])
+      victim_of b (length bytes) s d ≡ Some v → (holds v s.writes ≡ true) × (drop (length gc - 1) gc ≡ cache_of v s.writes ∷ [])
 
 unfoldable pub OneLeaves : Type 0
 OneLeaves = (b off : ℕ) (bytes : List ℕ) (s : State) (d : Device) → refusal (write_call b off bytes) s d ≡ 0 → Leaves b off bytes s d

@@ -1,6 +1,9 @@
 // The plain data that the code and the definitions share.
 #![tactic(auto)]
 
+ghost use Rattle.std.specs.Prelude.{◌≡◌};
+ghost use Rattle.model.specs.Tests.{number_of};
+
 // The state of a page, its spare byte 0.
 pub const READ_KIND: u8 = 1;
 
@@ -52,6 +55,56 @@ pub struct Entry {
     pub marked: bool,
 }
 
+// Why a call, a text or a line is turned down: document 01's numbers 1 to 8, document 02's 9 and 10, and the two of lines that make no call.
+#[derive(Clone, Copy, PartialEq, Eq)]
+pub enum Refusal {
+    // a size outside its limits
+    Limits,
+    // a lent length that is not its own
+    Lengths,
+    // a state that is not running
+    NotRunning,
+    // a chip that the page rules do not make
+    Image,
+    // queues that do not fit the chip
+    State,
+    // no such bucket or page
+    Place,
+    // a length of 0, or an end beyond the bucket's
+    Range,
+    // fewer than two epochs left
+    Epochs,
+    // a line that is no page
+    Line,
+    // a page given twice
+    Twice,
+    // a line that is no frame
+    NoFrame,
+    // sizes beyond a program's own buffers
+    NoRoom,
+}
+
+impl Refusal {
+    pub fn number(self) -> u8
+        ensures { result ≡ number_of self }
+    {
+        match self {
+            Refusal::Limits => 1,
+            Refusal::Lengths => 2,
+            Refusal::NotRunning => 3,
+            Refusal::Image => 4,
+            Refusal::State => 5,
+            Refusal::Place => 6,
+            Refusal::Range => 7,
+            Refusal::Epochs => 8,
+            Refusal::Line => 9,
+            Refusal::Twice => 10,
+            Refusal::NoFrame => NO_FRAME,
+            Refusal::NoRoom => NO_ROOM,
+        }
+    }
+}
+
 #[derive(Clone, Copy)]
 pub enum Answer {
     Done,
@@ -60,18 +113,12 @@ pub enum Answer {
     Refused(u8),
 }
 
-// The back-end bucket whose Write bucket gives way.
-#[derive(Clone, Copy)]
-pub enum Victim {
-    Nobody,
-    Bucket(u16),
-}
-
-// What a write would do: what it answers, the stores that it makes, whose Write bucket it sends to GC, and the next epoch that it leaves.
+// What a write would do: what it answers, the stores that it makes, the back-end bucket whose Write bucket it sends to GC, if one goes, and the next
+// epoch that it leaves.
 #[derive(Clone, Copy)]
 pub struct Preview {
     pub answer: Answer,
     pub stores: usize,
-    pub victim: Victim,
+    pub victim: Option<u16>,
     pub next: u64,
 }

@@ -1,13 +1,13 @@
 -- Ledger entries as logs of one byte, where the ledger's buckets stand, and the stores of an entry by what is looked up for it.
 use Prim.Native.Nat.{ℕ, suc, ◌+◌, ◌-◌, ◌≤◌, ◌<◌}
-use mathlib.Core.Path.{◌≡◌, refl, sym, ap, ◌∙◌}
+use mathlib.Core.Path.{◌≡◌, refl, ap, ◌∙◌}
 use mathlib.Core.Logic.{◌≢◌}
-use mathlib.Core.Bool.{Bool, true, false, not}
+use mathlib.Core.Bool.{Bool, true, false}
 use mathlib.Core.List.{[], ◌∷◌}
 use native.Mathlib.Omega.{arith}
 use native.Mathlib.Nat.{add-zero, zero-mul, div_self}
 use lib.Dec.{leb, eqb}
-use borrow.Author.Tests.{le-leb, lt-leb, leb-true, leb-false, not-true, not-false}
+use borrow.Author.Tests.{le-leb, lt-leb}
 use Rattle.std.specs.Prelude.{if◌then◌else◌}
 use Rattle.lists.specs.Lists.{row, ff}
 use Rattle.model.specs.declared.Sizes.{Sizes}
@@ -21,13 +21,6 @@ use Rattle.model.proofs.Limits.{Limits}
 use Rattle.log_pages.proofs.Pages.{front_ff}
 use Rattle.image.specs.Chip.{spare_only}
 use Rattle.image.proofs.SameSpare.{same-blanks, same-epoch}
-
--- whether a full bucket hands over, as the code asks
-pub some_left : (r : Bool) (n : ℕ) → r ≡ not (leb 1 n) → r ≡ false → 1 ≤ n
-some_left r n is stays = leb-true 1 n (not-false (leb 1 n) (sym is ∙ stays))
-
-pub none_left : (r : Bool) (n : ℕ) → r ≡ not (leb 1 n) → r ≡ true → n ≡ 0
-none_left r n is full = let none = leb-false 1 n (not-true (leb 1 n) (sym is ∙ full)) in omega arith
 
 module _ (z : Sizes) where
   pub same-in_use : (d : Device) → in_use z (spare_only d.spare) ≡ in_use z d

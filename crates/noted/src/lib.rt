@@ -1,7 +1,7 @@
 // An erase, and the ledger entry before it: made, or counted. Which page takes the entry and what it says are looked up before the first store.
 #![tactic(auto)]
 
-ghost use Rattle.std.specs.Prelude.{◌≡◌, ◌<◌, not, [], ◌∷◌, leb};
+ghost use Rattle.std.specs.Prelude.{◌≡◌, ◌<◌, [], ◌∷◌};
 ghost use Rattle.lists.specs.Lists.{ff};
 ghost use Rattle.model.specs.Sizes.{body};
 ghost use Rattle.model.specs.Spare.{entry_tag};
@@ -26,9 +26,10 @@ pub fn in_use(z: Sizes, spare: &[u8]) -> usize
 {
     let lower = geometry::body(z);
     if image::page_blank(z, lower + 1, 0, spare) {
-        return lower;
+        lower
+    } else {
+        lower + 1
     }
-    lower + 1
 }
 
 // The blank pages of the ledger bucket in use: the next entries take them.
@@ -40,13 +41,7 @@ pub fn entry_room(z: Sizes, spare: &[u8]) -> usize
     image::blanks(z, used, spare)
 }
 
-// A full ledger bucket hands over to the other.
-fn hands_over(room: usize) -> bool
-    ensures { result ≡ not (leb 1 room) }
-{
-    room == 0
-}
-
+// The ledger bucket that a full one hands over to.
 fn other_of(z: Sizes, used: usize) -> usize
     requires { Limits z }
     ensures { result ≡ other_of z used }
@@ -101,7 +96,7 @@ fn note(
     let used = in_use(z, spare);
     let room = image::blanks(z, used, spare);
     let epoch = image::epoch_of(z, bucket, spare);
-    if !hands_over(room) {
+    if room != 0 {
         let first = z.p - room;
         return program_entry(meter, z, used, first, epoch, bucket, flash, spare, disk);
     }
@@ -139,14 +134,15 @@ pub fn cost_of(z: Sizes, room: usize) -> Cost
     requires { Limits z }
     ensures { Costs z room result }
 {
-    if hands_over(room) {
-        return Cost {
+    if room == 0 {
+        Cost {
             stores: 3,
             room: z.p - 1,
-        };
-    }
-    Cost {
-        stores: 2,
-        room: room - 1,
+        }
+    } else {
+        Cost {
+            stores: 2,
+            room: room - 1,
+        }
     }
 }

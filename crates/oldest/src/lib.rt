@@ -24,9 +24,7 @@ fn write_out(meter: Meter, z: Sizes, b: usize, c: usize, flash: &[u8], disk: &mu
     ensures disk_len { length disk.new ≡ disk_size z }
 {
     let place = units::place(meter, z, b);
-    let at = place.at;
-    let end = place.end;
-    gather::piece_range(flash, z.p * z.s, c, 0, &mut disk[at..end]);
+    gather::piece_range(flash, z.p * z.s, c, 0, &mut disk[place]);
     meter::spent(meter, z.p)
 }
 

@@ -8,6 +8,9 @@ use lib.Dec.{ltb, eqb}
 use borrow.Author.Tests.{ne_eqb}
 use Rattle.std.specs.Prelude.{if◌then◌else◌}
 use Rattle.lists.specs.Lists.{empty}
+use Rattle.model.specs.declared.Refusal.{Refusal}
+use Rattle.model.specs.Tests.{number_of}
+use Rattle.model.proofs.Refusals.{refused_lem}
 use Rattle.model.specs.declared.Answer.TheVariants.{Done, Idle}
 use Rattle.model.specs.Sizes.{Device}
 use Rattle.model.specs.State.{State}
@@ -91,6 +94,10 @@ module _ (n : ℕ) (k : Call) (s : Struct) (v : State) (d : Device) where
   pub handed_refused : (r : ℕ) → refusal k v d ≡ r → (r ≡ 0 → ⊥) → handed_back d (lent_buffer k) (turned r s) ≡ handed s (call n k v d)
   unfolding call turned_down handed given_back
   handed_refused r h ne = rw (h, ne_eqb r 0 ne)
+
+  -- one that its check turns down
+  pub handed_refusal : (e : Refusal) → number_of e ≡ refusal k v d → handed_back d (lent_buffer k) (turned (number_of e) s) ≡ handed s (call n k v d)
+  handed_refusal e h = handed_refused (number_of e) (sym h) (refused_lem e)
 
 module _ (n : ℕ) (k : Call) (s : Struct) (d : Device) where
   -- The struct handed back is one of the outcome's state.

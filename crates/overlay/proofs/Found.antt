@@ -11,7 +11,7 @@ use lib.ListN.{length, take, get_or, replicate, length-replicate}
 use lib.Seq.{take_all}
 use lib.Dec.{leb, ltb, eqb}
 use borrow.Author.Tests.{eq-eqb, eqb-true, leb-true, le-leb, ltb-true, ltb-false, lt-ltb, le-ltb}
-use Rattle.std.specs.Prelude.{if◌then◌else◌}
+use Rattle.std.specs.Prelude.{Some, None, if◌then◌else◌}
 use Rattle.lists.specs.Lists.{all, any, member, splice}
 use Rattle.lists.proofs.Tests.{true_or_false, and_left, and_right, and-true, or_second}
 use Rattle.lists.proofs.Parts.{get_d_part, length-part-fits, get_d_splice_in, get_d_splice_before, get_d_splice_after}
@@ -32,7 +32,7 @@ use Rattle.image.specs.Chip.{spare_only}
 use Rattle.overlay.specs.declared.Extent.{Extent}
 use Rattle.overlay.specs.declared.Run.{Run}
 use Rattle.overlay.specs.Window.{chip, Tagged, Readable, LogPlace, log_part}
-use Rattle.overlay.specs.Runs.{Lays, EndsBy, Runs}
+use Rattle.overlay.specs.Runs.{Lays, LaysNone, EndsBy, Runs, covered}
 use Rattle.overlay.proofs.Logs.{in_flash, merged-length, log_place, log_laid, ends_last, log_lacking, merged-used}
 
 -- ---- one page
@@ -42,12 +42,8 @@ module _ {z : Sizes} {spare : List ℕ} (tagged : Tagged z spare) {c : ℕ} (buc
   blank_flash : Readable z (replicate (flash_size z) 0) spare
   blank_flash = record { limits = tagged.limits; flash_length = length-replicate (flash_size z) 0; spare_length = tagged.spare_length; body_formed = tagged.body_formed }
 
-  pub lays_nothing : ends_log z (spare_only spare) c k ≡ false → Lays z spare c k (record { low = 0; high = 0; at = 0 })
-  lays_nothing e = record {
-    inside = λ h. absurd (omega arith);
-    over = λ flash base r s i l h. absurd (omega arith);
-    beside = λ flash base r s i o. ap (λ (m : List ℕ). get_or m i 0) (log_lacking r bucket k e base);
-  }
+  pub lays_nothing : ends_log z (spare_only spare) c k ≡ false → LaysNone z spare c k
+  lays_nothing e = record { beside = λ flash base r s i. ap (λ (m : List ℕ). get_or m i 0) (log_lacking r bucket k e base) }
 
   module _ (e : ends_log z (spare_only spare) c k ≡ true) where
     abbrev pub said : Fields
@@ -120,7 +116,7 @@ raised_to x start e = if ltb e.high x then max start e.high else start
 module _ {z : Sizes} {spare : List ℕ} {c from start x k : ℕ} {e : Extent} (some : start < x) (least : from ≤ start) (above : Above z spare c start x (k + 1)) (lays : Lays z spare c k e) where
   -- the log covers the byte before x
   pub run_found : (ltb e.low x && leb x e.high) ≡ true
-      → Runs z spare (c ∷ []) from x (record { covered = true; at = e.at + (max start e.low - e.low); start = max start e.low })
+      → Runs z spare (c ∷ []) from x (record { at = Some (e.at + (max start e.low - e.low)); start = max start e.low })
   unfolding merge_all merge member any
   run_found h =
       let low = covered_low e x h in
@@ -203,7 +199,7 @@ ends_dead {z} {spare} {c} {k} {x} {e} lays dead ends = record {
         outside (no u) v = inr (omega arith)
 
 -- no page is left
-pub run_none : {z : Sizes} {spare : List ℕ} {c from start x : ℕ} → start < x → from ≤ start → Above z spare c start x 0 → Runs z spare (c ∷ []) from x (record { covered = false; at = 0; start = start })
+pub run_none : {z : Sizes} {spare : List ℕ} {c from start x : ℕ} → start < x → from ≤ start → Above z spare c start x 0 → Runs z spare (c ∷ []) from x (record { at = None; start = start })
 unfolding merge_all merge merge_to
 run_none some least above = record { some = some; least = least; inside = λ t. absurd (true≢false (sym t)); over = λ t. absurd (true≢false (sym t)); beside = λ t. above }
 
@@ -264,7 +260,7 @@ module _ {z : Sizes} {spare : List ℕ} (list : List ℕ) (below : all (is_below
       or_none true h = refl
       or_none false h = h
 
-  pub list_found : r.covered ≡ true → Runs z spare list from x r
+  pub list_found : (covered r) ≡ true → Runs z spare list from x r
   list_found t = record {
     some = runs.some;
     least = omega (arith, runs.least);
@@ -275,13 +271,13 @@ module _ {z : Sizes} {spare : List ℕ} (list : List ℕ) (below : all (is_below
     beside = λ u. absurd (true≢false (sym t ∙ u));
   }
 
-  pub list_passed : r.covered ≡ false → Among z spare list r.start x j
+  pub list_passed : (covered r) ≡ false → Among z spare list r.start x j
   list_passed t flash base readable size i l m =
       among flash base readable size i (omega (arith, runs.least)) m ∙ ap (λ (w : List ℕ). get_or w i 0) (next flash base)
       ∙ runs.beside t flash (merge_all z (chip flash spare) (take j list) base) readable (front_size flash base readable size) i l m
 
 -- no bucket is left
-pub list_none : {z : Sizes} {spare list : List ℕ} {from start x : ℕ} → start < x → from ≤ start → Among z spare list start x 0 → Runs z spare list from x (record { covered = false; at = 0; start = start })
+pub list_none : {z : Sizes} {spare list : List ℕ} {from start x : ℕ} → start < x → from ≤ start → Among z spare list start x 0 → Runs z spare list from x (record { at = None; start = start })
 unfolding merge_all
 list_none some least among = record { some = some; least = least; inside = λ t. absurd (true≢false (sym t)); over = λ t. absurd (true≢false (sym t)); beside = λ t. among }
 

@@ -22,14 +22,14 @@ use Rattle.model.specs.Recover.{merge_all}
 use Rattle.model.proofs.Frames.{row_fits_lem, row_apart}
 use Rattle.overlay.specs.declared.Run.{Run}
 use Rattle.overlay.specs.Window.{chip, Tagged, Readable}
-use Rattle.overlay.specs.Runs.{Inside, Runs, lent_over, Moves, moved_over, Shows, beneath, Aside}
+use Rattle.overlay.specs.Runs.{Inside, Runs, covered, place_of, lent_over, Moves, moved_over, Shows, beneath, Aside}
 use Rattle.overlay.proofs.Found.{merge-all-length}
 
 pub tagged_of : {z : Sizes} {flash spare : List ℕ} → Readable z flash spare → Tagged z spare
 tagged_of r = record { limits = r.limits; spare_length = r.spare_length; body_formed = r.body_formed }
 
 -- where a log's bytes lie there is flash
-pub stored : {z : Sizes} {flash spare list : List ℕ} {from x : ℕ} {r : Run} → Readable z flash spare → Runs z spare list from x r → r.covered ≡ true → r.at + (x - r.start) ≤ length flash
+pub stored : {z : Sizes} {flash spare list : List ℕ} {from x : ℕ} {r : Run} → Readable z flash spare → Runs z spare list from x r → (covered r) ≡ true → (place_of r) + (x - r.start) ≤ length flash
 unfolding flash_size
 stored {z} readable runs t =
     let w = runs.inside t in
@@ -44,13 +44,13 @@ module _ {z : Sizes} {flash spare : List ℕ} (readable : Readable z flash spare
 
   module _ {from x : ℕ} (inside : x ≤ bucket_size z) {r : Run} (runs : Runs z spare list from x r) where
     -- the run's bytes of the result
-    pub over_part : r.covered ≡ true → part result r.start (x - r.start) ≡ part flash r.at (x - r.start)
+    pub over_part : (covered r) ≡ true → part result r.start (x - r.start) ≡ part flash (place_of r) (x - r.start)
     over_part t =
-        part_from result flash r.start r.at (x - r.start) (omega (arith, runs.some, result_size)) (stored readable runs t)
+        part_from result flash r.start (place_of r) (x - r.start) (omega (arith, runs.some, result_size)) (stored readable runs t)
         (λ k h. let same : r.start + k - r.start ≡ k = omega arith in
-        runs.over t flash whole readable size (r.start + k) (omega arith) (omega (arith, runs.some)) ∙ ap (λ (j : ℕ). get_or flash (r.at + j) 0) same)
+        runs.over t flash whole readable size (r.start + k) (omega arith) (omega (arith, runs.some)) ∙ ap (λ (j : ℕ). get_or flash ((place_of r) + j) 0) same)
 
-    pub beside-part : r.covered ≡ false → part result r.start (x - r.start) ≡ part whole r.start (x - r.start)
+    pub beside-part : (covered r) ≡ false → part result r.start (x - r.start) ≡ part whole r.start (x - r.start)
     beside-part t =
         part_from result whole r.start r.start (x - r.start) (omega (arith, runs.some, result_size)) (omega (arith, runs.some))
         (λ k h. runs.beside t flash whole readable size (r.start + k) (omega arith) (omega (arith, runs.some)))
@@ -79,7 +79,7 @@ module _ {z : Sizes} {flash spare : List ℕ} (readable : Readable z flash spare
       length_window = ap length shown ∙ length-splice window₀ (x - from) (part result x (from + length window₀ - x)) (omega (arith, runs.some, runs.least, length-shown))
 
       -- where nothing is lent, the window shows a run that no log covers
-      own : r.covered ≡ false → empty under ≡ true → Shows whole under from window₀ → part result r.start (x - r.start) ≡ part window (r.start - from) (x - r.start)
+      own : (covered r) ≡ false → empty under ≡ true → Shows whole under from window₀ → part result r.start (x - r.start) ≡ part window (r.start - from) (x - r.start)
       own t u (inl q) = absurd (omega (arith, runs.some, eqb-true (length under) 0 (sym (empty-length under) ∙ u), ap length q))
       own t u (inr q) =
           beside-part (omega arith) runs t ∙ ap (λ (i : ℕ). part whole i (x - r.start)) (sym place)
@@ -90,9 +90,9 @@ module _ {z : Sizes} {flash spare : List ℕ} (readable : Readable z flash spare
 
       pub lent_step : lent_over r x from flash under window ≡ splice window₀ (r.start - from) (part result r.start (from + length window₀ - r.start))
       unfolding lent_over
-      lent_step = go (true_or_false r.covered) (true_or_false (empty under)) shows
+      lent_step = go (true_or_false (covered r)) (true_or_false (empty under)) shows
         where
-          go : (r.covered ≡ true) ⊎ (r.covered ≡ false) → (empty under ≡ true) ⊎ (empty under ≡ false) → Shows whole under from window₀
+          go : ((covered r) ≡ true) ⊎ ((covered r) ≡ false) → (empty under ≡ true) ⊎ (empty under ≡ false) → Shows whole under from window₀
               → lent_over r x from flash under window ≡ splice window₀ (r.start - from) (part result r.start (from + length window₀ - r.start))
           go (inl t) u s = rw (t, ← over_part (omega arith) runs t) next
           go (inr t) (inr u) (inl s) = rw (t, u, s, ← beside-part (omega arith) runs t) next
@@ -147,7 +147,7 @@ module _ {z : Sizes} {flash₀ spare : List ℕ} (readable : Readable z flash₀
       go (inr a) = inr (omega (arith, i.low))
 
   module _ {x : ℕ} (most : x ≤ n) {r : Run} (runs : Runs z spare list 0 x r) where
-    taken : r.covered ≡ true → (c : ℕ) × (c ≢ target) × Inside z c r.at (x - r.start)
+    taken : (covered r) ≡ true → (c : ℕ) × (c ≢ target) × Inside z c (place_of r) (x - r.start)
     taken t = let w = runs.inside t in (w.0, λ q. true≢false (sym w.1 ∙ ap (λ (c : ℕ). member c list) q ∙ aside.unlisted), w.2)
 
     lower : base ≢ target → Inside z base (base * bucket_size z + r.start) (x - r.start)
@@ -190,18 +190,18 @@ module _ {z : Sizes} {flash₀ spare : List ℕ} (readable : Readable z flash₀
           rw held (rw (before, up, whole_part) at joined)
 
       -- the bytes moved, by where they come from
-      moved_bytes : (if r.covered then part flash r.at (x - r.start) else (if empty under then part flash (base * bucket_size z + r.start) (x - r.start) else part under r.start (x - r.start)))
+      moved_bytes : (if (covered r) then part flash (place_of r) (x - r.start) else (if empty under then part flash (base * bucket_size z + r.start) (x - r.start) else part under r.start (x - r.start)))
           ≡ part made r.start (x - r.start)
-      moved_bytes = go (true_or_false r.covered) lent_or_not
+      moved_bytes = go (true_or_false (covered r)) lent_or_not
         where
           over : List ℕ
-          over = part flash r.at (x - r.start)
+          over = part flash (place_of r) (x - r.start)
 
           beneath_it : List ℕ
           beneath_it = if empty under then part flash (base * bucket_size z + r.start) (x - r.start) else part under r.start (x - r.start)
 
-          go : (r.covered ≡ true) ⊎ (r.covered ≡ false) → ((empty under ≡ true) × (length under ≡ 0) × (base ≢ target)) ⊎ ((empty under ≡ false) × (length under ≡ bucket_size z))
-              → (if r.covered then over else beneath_it) ≡ part made r.start (x - r.start)
+          go : ((covered r) ≡ true) ⊎ ((covered r) ≡ false) → ((empty under ≡ true) × (length under ≡ 0) × (base ≢ target)) ⊎ ((empty under ≡ false) × (length under ≡ bucket_size z))
+              → (if (covered r) then over else beneath_it) ≡ part made r.start (x - r.start)
           go (inl t) u =
               let w = taken t in
               if_true over beneath_it t ∙ still w.1 w.2 ∙ sym (over_part readable list below whole whole_size (omega arith) runs t)

@@ -2,7 +2,7 @@
 // under the logs. The whole is all bytes of a back-end bucket; a run is a part of it that one log covers last, or none.
 #![tactic(auto)]
 
-ghost use Rattle.std.specs.Prelude.{◌≡◌, true, ◌&&◌, ◌⊎◌, List, [], ◌∷◌, ℕ, ◌+◌, ◌-◌, ◌*◌, ◌≤◌, ◌<◌, max, length, take, get_or, leb, ltb, eqb, if◌then◌else◌};
+ghost use Rattle.std.specs.Prelude.{◌≡◌, true, ◌&&◌, ◌⊎◌, List, [], ◌∷◌, ℕ, ◌+◌, ◌-◌, ◌*◌, ◌≤◌, ◌<◌, max, length, MatchOption, take, get_or, leb, ltb, eqb, if◌then◌else◌};
 ghost use Rattle.lists.specs.Lists.{all, splice, part};
 ghost use Rattle.model.specs.Sizes.{bucket_size, body};
 ghost use Rattle.model.specs.Image.{blanks};
@@ -10,7 +10,7 @@ ghost use Rattle.model.specs.State.{is_below};
 ghost use Rattle.image.specs.Chip.{spare_only};
 ghost use Rattle.model.specs.Recover.{merge_all};
 ghost use Rattle.overlay.specs.Window.{Turns, Tagged, Readable, chip};
-ghost use Rattle.overlay.specs.Runs.{Lays, EndsBy, Runs, Laid, lent_over, Moves, moved_over, Shows, beneath, Aside};
+ghost use Rattle.overlay.specs.Runs.{Lays, LaysNone, EndsBy, Runs, Laid, lent_over, Moves, moved_over, Shows, beneath, Aside};
 
 use model::Sizes;
 
@@ -25,36 +25,25 @@ pub struct Extent {
 // The bytes of the whole from `start` on; if a log covers them, they lie in the flash from `at` on.
 #[derive(Clone, Copy)]
 pub struct Run {
-    pub covered: bool,
-    pub at: usize,
+    pub at: Option<usize>,
     pub start: usize,
 }
 
-pub fn larger(a: usize, b: usize) -> usize
-    ensures { result ≡ max a b }
-{
-    if a < b { b } else { a }
-}
-
-// What the log covers that ends at page k; nothing, if no complete one does.
-fn log_at(z: Sizes, c: usize, k: usize, spare: &[u8]) -> Extent
+// What the log covers that ends at page k, if a complete one does.
+fn log_at(z: Sizes, c: usize, k: usize, spare: &[u8]) -> Option<Extent>
     requires tagged { Tagged z spare.now }
     requires c_bound { (c < body z) × (k < z.p) }
-    ensures { Lays z spare.now c k result }
+    ensures { MatchOption result (LaysNone z spare.now c k) (λ log. Lays z spare.now c k log) }
 {
     if !image::ends_log(z, c, k, spare) {
-        return Extent {
-            low: 0,
-            high: 0,
-            at: 0,
-        };
+        return None;
     }
     let f = spare::fields_at(spare, c * z.p + k);
     let low = f.offset as usize;
     let high = low + (f.last as usize + 1);
     let first = k + 1 - f.pages as usize;
     let at = c * (z.p * z.s) + first * z.s;
-    Extent { low, high, at }
+    Some(Extent { low, high, at })
 }
 
 // Whether it covers the byte before x.
@@ -69,7 +58,7 @@ fn raised(x: usize, start: usize, log: Extent) -> usize
     ensures { result ≡ (if ltb log.high x then max start log.high else start) }
 {
     if log.high < x {
-        return larger(start, log.high);
+        return start.max(log.high);
     }
     start
 }
@@ -83,26 +72,20 @@ fn run_in(z: Sizes, c: usize, pages: usize, from: usize, x: usize, spare: &[u8])
     ensures { Runs z spare.now (c ∷ []) from x result }
 {
     let mut start = from;
-    let mut k = pages;
-    while 0 < k {
-        k -= 1;
-        let log = log_at(z, c, k, spare);
-        if covers(log, x) {
-            let first = larger(start, log.low);
-            let at = log.at + (first - log.low);
-            return Run {
-                covered: true,
-                at,
-                start: first,
-            };
+    for k in (0..pages).rev() {
+        if let Some(log) = log_at(z, c, k, spare) {
+            if covers(log, x) {
+                let first = start.max(log.low);
+                let at = log.at + (first - log.low);
+                return Run {
+                    at: Some(at),
+                    start: first,
+                };
+            }
+            start = raised(x, start, log);
         }
-        start = raised(x, start, log);
     }
-    Run {
-        covered: false,
-        at: 0,
-        start,
-    }
+    Run { at: None, start }
 }
 
 // Whether the log lays a byte before x.
@@ -120,15 +103,14 @@ fn live_pages(z: Sizes, c: usize, pages: usize, x: usize, spare: &[u8]) -> usize
     requires ends_by { EndsBy z spare.now c x pages }
     ensures { EndsBy z spare.now c x result }
 {
-    let mut n = pages;
-    while 0 < n {
-        let log = log_at(z, c, n - 1, spare);
-        if reaches(log, x) {
-            return n;
+    for page in (0..pages).rev() {
+        if let Some(log) = log_at(z, c, page, spare) {
+            if reaches(log, x) {
+                return page + 1;
+            }
         }
-        n -= 1;
     }
-    n
+    0
 }
 
 // How many pages of the listed bucket j are not blank.
@@ -188,21 +170,15 @@ fn run_at(z: Sizes, list: &[u8], newest: usize, from: usize, x: usize, spare: &[
     ensures { Runs z spare.now list.now from x result }
 {
     let mut start = from;
-    let mut j = list.len();
-    while 0 < j {
-        j -= 1;
+    for j in (0..list.len()).rev() {
         let pages = pages_at(z, list, j, newest, spare);
         let run = run_in(z, list[j] as usize, pages, start, x, spare);
-        if run.covered {
+        if run.at.is_some() {
             return run;
         }
         start = run.start;
     }
-    Run {
-        covered: false,
-        at: 0,
-        start,
-    }
+    Run { at: None, start }
 }
 
 // A run goes into the window, which shows the whole from an index on. With nothing lent to lie under the logs, the window shows it already.
@@ -211,13 +187,12 @@ fn lay_run(run: Run, x: usize, from: usize, flash: &[u8], under: &[u8], window: 
     ensures { window.new ≡ lent_over run x from flash.now under.now window.old }
 {
     let start = run.start;
-    if run.covered {
-        let at = run.at;
+    if let Some(at) = run.at {
         let end = at + (x - start);
         area::write_at(window, start - from, &flash[at..end]);
         return;
     }
-    if under.len() != 0 {
+    if !under.is_empty() {
         area::write_at(window, start - from, &under[start..x]);
     }
 }
@@ -240,6 +215,7 @@ fn lay_runs(
 {
     let mut newest = newest_pages(z, list, spare);
     let mut x = from + window.len();
+    // Each run ends where the one behind it starts: no range counts these steps.
     while from < x {
         newest = newest_live(z, list, newest, x, spare);
         let run = run_at(z, list, newest, from, x, spare);
@@ -283,11 +259,11 @@ fn move_run(run: Run, x: usize, base: usize, to: usize, under: &[u8], flash: &mu
     ensures { flash.new ≡ moved_over run x base to under.now flash.old }
 {
     let start = run.start;
-    if run.covered {
-        area::move_within(flash, run.at, to + start, x - start);
+    if let Some(at) = run.at {
+        area::move_within(flash, at, to + start, x - start);
         return;
     }
-    if under.len() == 0 {
+    if under.is_empty() {
         area::move_within(flash, base + start, to + start, x - start);
         return;
     }
@@ -317,6 +293,7 @@ pub fn lay_within(
     let under_at = base * size;
     let mut newest = newest_pages(z, list, spare);
     let mut x = n;
+    // Each run ends where the one behind it starts: no range counts these steps.
     while 0 < x {
         newest = newest_live(z, list, newest, x, spare);
         let run = run_at(z, list, newest, 0, x, spare);

@@ -1,38 +1,22 @@
--- A queue's answers by the place where b stands.
-use Prim.Native.Nat.{ℕ, suc, ◌+◌, ◌≤◌, ◌<◌}
-use mathlib.Core.Path.{◌≡◌, refl, sym, ◌∙◌}
+-- Whether a back-end bucket stands twice in a queue.
+use Prim.Native.Nat.{ℕ, ◌+◌, ◌<◌}
+use mathlib.Core.Path.{◌≡◌, refl, sym, ap, ◌∙◌}
 use mathlib.Core.Bool.{Bool, true, false, not, ◌&&◌, ◌||◌}
 use mathlib.Core.List.{List, [], ◌∷◌, map}
+use lib.ListN.{drop, length, get_or}
+use lib.Dec.{eqb}
+use lib.Seq.{drop-cons}
 use native.Mathlib.Numerals.{add-one}
-use native.Mathlib.Omega.{arith}
-use lib.ListN.{length, take, drop, get_or}
-use lib.Dec.{ltb, eqb, leb-suc-suc}
-use borrow.Author.Tests.{eqb-true, eqb-false, eq-eqb, ne_eqb, lt-ltb}
-use Rattle.std.specs.Prelude.{if◌then◌else◌}
+use borrow.Author.Tests.{eqb-true, eqb-false, eq-eqb, ne_eqb}
+use native.Mathlib.Nat.{le_refl}
+use Rattle.std.specs.Prelude.{Option, is_some, if◌then◌else◌}
+use Rattle.std.specs.List.{between}
+use Rattle.std.proofs.lemmas.Slice.{between_to_end}
 use Rattle.lists.specs.Lists.{any, member, distinct}
-use Rattle.lists.proofs.Arrays.{rest_more}
 use Rattle.model.specs.declared.Entry.{Entry}
-use Rattle.model.specs.State.{entry, is_of, holds, record_of, back_bucket, backs}
-use Rattle.queue.specs.View.{no_entry, index_of}
-
-pub holds_index : (b : ℕ) (l : List Entry) → holds b l ≡ ltb (index_of b l) (length l)
-unfolding holds index_of
-holds_index b [] = refl
-holds_index b (e ∷ l) = at (is_of b e) (holds_index b l)
-  where
-    at : (t : Bool) → holds b l ≡ ltb (index_of b l) (length l)
-        → (if t then true else holds b l) ≡ ltb (if t then 0 else index_of b l + 1) (suc (length l))
-    at true h = sym (lt-ltb 0 (suc (length l)) (omega arith))
-    at false h = rw (add-one (index_of b l)) (h ∙ sym (leb-suc-suc (suc (index_of b l)) (length l)))
-
-pub record_index : (b : ℕ) (l : List Entry) → record_of b l ≡ get_or l (index_of b l) no_entry
-unfolding record_of index_of entry
-record_index b [] = refl
-record_index b (e ∷ l) = at (is_of b e) (record_index b l)
-  where
-    at : (t : Bool) → record_of b l ≡ get_or l (index_of b l) no_entry → (if t then e else record_of b l) ≡ get_or (e ∷ l) (if t then 0 else index_of b l + 1) no_entry
-    at true h = refl
-    at false h = rw (add-one (index_of b l)) h
+use Rattle.model.specs.State.{is_of, holds, back_bucket, backs}
+use Rattle.queue.specs.View.{no_entry, found}
+use Rattle.queue.proofs.Found.{is_some-found}
 
 eqb-sym : (m n : ℕ) (t : Bool) → eqb m n ≡ t → eqb n m ≡ t
 eqb-sym m n true e = eq-eqb n m (sym (eqb-true m n e))
@@ -48,8 +32,12 @@ member-holds b (e ∷ l) = at (eqb e.back b) refl (member-holds b l)
     at true q h = rw (eqb-sym e.back b true q)
     at false q h = rw (eqb-sym e.back b false q) h
 
--- a loop that looks for each of the first n among those behind it
-pub distinct-step : (i n : ℕ) (l : List Entry) → i < n → n ≤ length l → (t : Bool) → holds (get_or l i no_entry).back (drop (i + 1) (take n l)) ≡ t
-    → distinct (backs (drop i (take n l))) ≡ (not t && distinct (backs (drop (i + 1) (take n l))))
+-- a search of what stands from i on
+pub searched : (b i : ℕ) (l : List Entry) {o : Option Entry} → o ≡ found b (between i (length l) l) → is_some o ≡ holds b (drop i l)
+searched b i l e = ap is_some (e ∙ ap (found b) (between_to_end l i (length l) (le_refl (length l)))) ∙ is_some-found b (drop i l)
+
+-- a loop that looks for each among those behind it
+pub distinct-step : (i : ℕ) (l : List Entry) → i < length l → (t : Bool) → holds (get_or l i no_entry).back (drop (i + 1) l) ≡ t
+    → distinct (backs (drop i l)) ≡ (not t && distinct (backs (drop (i + 1) l)))
 unfolding distinct backs back_bucket
-distinct-step i n l h k t e = rw (rest_more i n l no_entry h k, member-holds (get_or l i no_entry).back (drop (i + 1) (take n l)), e)
+distinct-step i l h t e = rw (rw (← add-one i) at (drop-cons l i no_entry h), member-holds (get_or l i no_entry).back (drop (i + 1) l), e)

@@ -1,3 +1,4 @@
-pub mod Laws
 pub mod Without
 pub mod InPlace
+pub mod Found
+pub mod Laws

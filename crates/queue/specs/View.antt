@@ -1,8 +1,7 @@
 -- A queue is seen as the list of its first `len` entries.
-use Rattle.std.specs.Prelude.{ℕ, ◌+◌, false, List, [], ◌∷◌, length, take, if◌then◌else◌}
+use Rattle.std.specs.Prelude.{ℕ, false, Option, List, length, take, find, eqb}
 use Rattle.lists.specs.Arrays.{padded}
 use Rattle.model.specs.declared.Entry.{Entry}
-use Rattle.model.specs.State.{is_of}
 use Rattle.queue.specs.declared.Queue.{Queue}
 
 abbrev pub entries_of : Queue → List Entry
@@ -16,7 +15,6 @@ no_entry = record { back = 0; cache = 0; priority = 0; blank = 0; marked = false
 abbrev pub queue_of : List Entry → Queue
 queue_of l = record { items = padded 64 no_entry l; len = length l }
 
--- where the first entry of b stands; the list's length, if there is none
-unfoldable pub index_of : ℕ → List Entry → ℕ
-index_of b [] = 0
-index_of b (e ∷ l) = if is_of b e then 0 else index_of b l + 1
+-- b's record, if the queue holds b
+abbrev pub found : ℕ → List Entry → Option Entry
+found b l = find (λ e. eqb e.back b) l

@@ -137,7 +137,7 @@ fn copy_read(
     let turn = make_copy(whole, s, b, flash, spare, disk);
     let left = turn.meter;
     let state = turn.state;
-    let copy = state.reads.find(b);
+    let copy = state.reads.find(b).unwrap();
     show(
         left.cut,
         s.sizes,
@@ -153,9 +153,11 @@ fn copy_read(
 fn stores_nothing(s: State, last: bool, b: u16) -> bool
     ensures { result ≡ (last || is_current b (places_of s)) }
 {
-    let read = s.reads.holds(b);
-    let logs = s.writes.find(b);
-    last | (read & (!logs.held | logs.marked))
+    let logged = match s.writes.find(b) {
+        Some(own) => own.marked,
+        None => true,
+    };
+    last | (s.reads.holds(b) & logged)
 }
 
 // A read without a store touches the read bucket; with fewer than two epochs left it moves nothing either.
@@ -204,10 +206,8 @@ pub fn read(
 ) -> Outcome
     ensures { handed_back (device flash.new spare.new disk.new) buffer.new result ≡ handed s (call allowance (read_call b offset buffer.old) (view_of s) (device flash.old spare.old disk.old)) }
 {
-    let number = checks::read_refusal(s, b, offset, buffer.len(), flash, spare, disk);
-    if number == 0 {
-        read_bucket(s, b, offset, buffer, allowance, flash, spare, disk)
-    } else {
-        outcome::refused(number, s)
+    match checks::check_read(s, b, offset, buffer.len(), flash, spare, disk) {
+        Ok(()) => read_bucket(s, b, offset, buffer, allowance, flash, spare, disk),
+        Err(refusal) => outcome::refused(refusal.number(), s),
     }
 }

@@ -16,28 +16,28 @@ use Rattle.model.specs.Tests.{first_failed}
 use Rattle.model.specs.Mail.{line_reads, place_of, line_tests}
 use Rattle.receive.specs.Given.{Marks}
 
-pub marks_none : (n : ℕ) → Marks (replicate n 0) []
+pub marks_none : (n : ℕ) → Marks (replicate n false) []
 unfolding member any
-marks_none n g h = get_or-replicate n g 0 0 (rw (length-replicate {A = ℕ} n 0) at h)
+marks_none n g h = get_or-replicate n g false false (rw (length-replicate {A = Bool} n false) at h)
 
-pub marks_next : (marks given : List ℕ) (p : ℕ) → p < length marks → Marks marks given → Marks (set marks p 1) (p ∷ given)
+pub marks_next : (marks : List Bool) (given : List ℕ) (p : ℕ) → p < length marks → Marks marks given → Marks (set marks p true) (p ∷ given)
 unfolding member any
 marks_next marks given p h m g hg = go (ℕ_discrete g p)
   where
-    go : Dec (g ≡ p) → get_or (set marks p 1) g 0 ≡ (if eqb g p || member g given then 1 else 0)
-    go (yes e) = ap (λ (i : ℕ). get_or (set marks p 1) i 0) e ∙ get_or-set_same marks p 1 0 h ∙ rw (eq-eqb g p e)
-    go (no ne) = get_or-set_other marks p g 1 0 ne ∙ m g (omega (arith, length-set marks p 1)) ∙ rw (ne_eqb g p ne)
+    go : Dec (g ≡ p) → get_or (set marks p true) g false ≡ (eqb g p || member g given)
+    go (yes e) = ap (λ (i : ℕ). get_or (set marks p true) i false) e ∙ get_or-set_same marks p true false h ∙ rw (eq-eqb g p e)
+    go (no ne) = get_or-set_other marks p g true false ne ∙ m g (omega (arith, length-set marks p true)) ∙ rw (ne_eqb g p ne)
 
 module _ (z : Sizes) (given line : List ℕ) where
   pub fault_unread : line_reads z line ≡ false → 9 ≡ first_failed (line_tests z given line)
   unfolding line_tests first_failed
   fault_unread h = rw h
 
-  pub fault_marked : (marks : List ℕ) (page : ℕ) → Marks marks given → line_reads z line ≡ true → page ≡ place_of z line → page < length marks
-      → first_failed (line_tests z given line) ≡ (if eqb (get_or marks page 0) 1 then 10 else 0)
+  pub fault_marked : (marks : List Bool) (page : ℕ) → Marks marks given → line_reads z line ≡ true → page ≡ place_of z line → page < length marks
+      → first_failed (line_tests z given line) ≡ (if get_or marks page false then 10 else 0)
   unfolding line_tests first_failed
   fault_marked marks page m h e inside = rw (h, ← e, m page inside) (go (member page given))
     where
-      go : (t : Bool) → ◌≡◌ {A = ℕ} (if not t then 0 else 10) (if eqb (if t then 1 else 0) 1 then 10 else 0)
+      go : (t : Bool) → ◌≡◌ {A = ℕ} (if not t then 0 else 10) (if t then 10 else 0)
       go true = refl
       go false = refl

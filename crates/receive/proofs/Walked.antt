@@ -1,7 +1,7 @@
 -- A walk over the lines of a text, which looks at them or lays them onto the chip: what the lines ahead still decide.
 use Prim.Native.Nat.{ℕ, ◌+◌, ◌-◌, ◌≤◌}
 use mathlib.Core.Path.{◌≡◌, refl, sym, ◌∙◌}
-use mathlib.Core.Bool.{true}
+use mathlib.Core.Bool.{Bool, true}
 use mathlib.Core.List.{List, [], ◌∷◌, map}
 use native.Mathlib.Omega.{arith}
 use lib.ListN.{length, drop, drop_of_length-le}
@@ -32,24 +32,24 @@ unfolding lines_from empty
 no_lines text at h = rw (drop_of_length-le text {i = at} h)
 
 -- no line before the place is faulty, and their pages are marked
-pub record Looked (z : Sizes) (text marks : List ℕ) (before at : ℕ) : Type 0 where
+pub record Looked (z : Sizes) (text : List ℕ) (marks : List Bool) (before at : ℕ) : Type 0 where
   pub given : List ℕ
   pub marked : Marks marks given
   pub fault_ahead : text_fault z text ≡ fault_in z given (lines_at text at)
   pub sound_ahead : sound_lines z [] (lines_of text) ≡ before + sound_lines z given (lines_at text at)
 
 module _ (z : Sizes) (text : List ℕ) where
-  pub looked_none : {marks : List ℕ} → Marks marks [] → Looked z text marks 0 0
+  pub looked_none : {marks : List Bool} → Marks marks [] → Looked z text marks 0 0
   unfolding text_fault lines_of
   looked_none m = record { given = []; marked = m; fault_ahead = refl; sound_ahead = omega arith }
 
-  module _ {marks : List ℕ} {before at : ℕ} (looked : Looked z text marks before at) where
+  module _ {marks : List Bool} {before at : ℕ} (looked : Looked z text marks before at) where
     pub looked_all : length text ≤ at → (0 ≡ text_fault z text) × (before ≡ sound_lines z [] (lines_of text))
     unfolding fault_in sound_lines
     looked_all h = let none = no_lines text at h in (sym (looked.fault_ahead ∙ rw none), sym (looked.sound_ahead ∙ rw none (omega arith)))
 
     module _ (end : ℕ) (next : NextLine text at end) where
-      pub looked_more : {marked : List ℕ} → 0 ≡ first_failed (line_tests z looked.given (line_at text at end))
+      pub looked_more : {marked : List Bool} → 0 ≡ first_failed (line_tests z looked.given (line_at text at end))
           → Marks marked (place_of z (line_at text at end) ∷ looked.given) → Looked z text marked (before + 1) (end + 1)
       unfolding fault_in sound_lines
       looked_more e m =

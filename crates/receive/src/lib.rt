@@ -1,18 +1,18 @@
 // Chip images by mail, read: a text's lines are looked at one after the other, and laid onto the chip once none is faulty.
 #![tactic(auto)]
 
-ghost use Rattle.std.specs.Prelude.{◌≡◌, true, List, [], ◌∷◌, map, ℕ, ◌*◌, ◌<◌, length};
+ghost use Rattle.std.specs.Prelude.{◌≡◌, true, List, [], ◌∷◌, map, ℕ, ◌*◌, ◌<◌, length, OnOk};
 ghost use Rattle.lists.specs.Lists.{all};
-ghost use Rattle.model.specs.Tests.{first_failed};
+ghost use Rattle.model.specs.Tests.{first_failed, number};
 ghost use Rattle.model.specs.Sizes.{flash_size, spare_size};
 ghost use Rattle.model.specs.Stores.{apply, apply_all};
 ghost use Rattle.model.specs.Driving.{lines_of};
 ghost use Rattle.model.specs.Mail.{line_reads, place_of, line_tests, text_fault, read_tests, line_store, read_text};
 ghost use Rattle.model.proofs.Limits.{Limits};
 ghost use Rattle.geometry.specs.Geometry.{device};
-ghost use Rattle.receive.specs.Given.{Marks, sound_lines, text_read};
+ghost use Rattle.receive.specs.Given.{Marks, sound_lines, fault_number, lines_before, text_read};
 
-use model::{Answer, Sizes};
+use model::{Answer, Refusal, Sizes};
 
 // The most pages of a chip.
 const PAGES: usize = 16384;
@@ -20,10 +20,10 @@ const PAGES: usize = 16384;
 // The bytes of a frame before the page's data: bucket, page, spare bytes.
 const HEAD: usize = 19;
 
-// The number of the first faulty line, or 0 where none is faulty, and how many lines stand before it.
-#[derive(Clone, Copy)]
+// Why the first faulty line is turned down, and how many lines stand before it.
+#[derive(Clone, Copy, PartialEq, Eq)]
 pub struct Fault {
-    pub number: u8,
+    pub refusal: Refusal,
     pub before: usize,
 }
 
@@ -56,41 +56,41 @@ fn place_of(z: Sizes, line: &[u8]) -> usize
     bucket * z.p + (page as usize)
 }
 
-// The number that turns a line down, or 0; then its page is marked as given.
-fn line_fault(z: Sizes, line: &[u8], marks: &mut [u8]) -> u8
+// A line that passes has its page marked as given.
+fn check_line(z: Sizes, line: &[u8], marks: &mut [bool]) -> Result<(), Refusal>
     requires { Limits z × (length marks.old ≡ 16384) }
-    ensures by_index { (given : List ℕ) → Marks marks.old given → (result ≡ first_failed (line_tests z given line.now)) × (result ≡ 0 → Marks marks.new (place_of z line.now ∷ given)) }
+    ensures by_index { (given : List ℕ) → Marks marks.old given → (number result ≡ first_failed (line_tests z given line.now)) × OnOk result (Marks marks.new (place_of z line.now ∷ given)) }
     ensures marks_len { length marks.new ≡ 16384 }
 {
     if !line_reads(z, line) {
-        return 9;
+        return Err(Refusal::Line);
     }
     let page = place_of(z, line);
-    if marks[page] == 1 {
-        return 10;
+    if marks[page] {
+        return Err(Refusal::Twice);
     }
-    marks[page] = 1;
-    0
+    marks[page] = true;
+    Ok(())
 }
 
-// A byte for each page marks those that were given.
-pub fn first_fault(z: Sizes, text: &[u8]) -> Fault
+// How many lines the text has, if none is faulty. A mark for each page tells those that were given.
+pub fn first_fault(z: Sizes, text: &[u8]) -> Result<usize, Fault>
     requires { Limits z }
-    ensures { (result.number ≡ text_fault z text.now) × (result.before ≡ sound_lines z [] (lines_of text.now)) }
+    ensures { (fault_number result ≡ text_fault z text.now) × (lines_before result ≡ sound_lines z [] (lines_of text.now)) }
 {
-    let mut marks = [0u8; PAGES];
+    let mut marks = [false; PAGES];
     let mut before = 0;
     let mut at = 0;
+    // no `for`: each step is as long as the line
     while at < text.len() {
         let end = lines::line_end(text, at);
-        let number = line_fault(z, &text[at..end], &mut marks);
-        if number != 0 {
-            return Fault { number, before };
+        if let Err(refusal) = check_line(z, &text[at..end], &mut marks) {
+            return Err(Fault { refusal, before });
         }
         before += 1;
         at = end + 1;
     }
-    Fault { number: 0, before }
+    Ok(before)
 }
 
 // The page's digits go straight into its parts of the chip.
@@ -116,6 +116,7 @@ fn lay_lines(z: Sizes, text: &[u8], flash: &mut [u8], spare: &mut [u8])
     ensures { device flash.new spare.new [] ≡ apply_all z (device flash.old spare.old []) (map (line_store z) (lines_of text.now)) }
 {
     let mut at = 0;
+    // no `for`: each step is as long as the line
     while at < text.len() {
         let end = lines::line_end(text, at);
         lay_line(z, &text[at..end], flash, spare);
@@ -123,25 +124,22 @@ fn lay_lines(z: Sizes, text: &[u8], flash: &mut [u8], spare: &mut [u8])
     }
 }
 
-// The number of the first test that fails, or 0.
-fn refusal(z: Sizes, text: &[u8], flash: &[u8], spare: &[u8]) -> u8
-    ensures { result ≡ first_failed (read_tests z (device flash.now spare.now []) text.now) }
+fn check_text(z: Sizes, text: &[u8], flash: &[u8], spare: &[u8]) -> Result<(), Refusal>
+    ensures { number result ≡ first_failed (read_tests z (device flash.now spare.now []) text.now) }
 {
-    let number = geometry::chip_refusal(z, flash, spare);
-    if number != 0 {
-        return number;
+    geometry::check_chip(z, flash, spare)?;
+    match first_fault(z, text) {
+        Ok(lines) => Ok(()),
+        Err(fault) => Err(fault.refusal),
     }
-    let fault = first_fault(z, text);
-    fault.number
 }
 
 // The text is read twice: nothing is touched before its last line is known to be right.
 pub fn read_text(z: Sizes, text: &[u8], flash: &mut [u8], spare: &mut [u8]) -> Answer
     ensures { text_read result (device flash.new spare.new []) ≡ read_text z (device flash.old spare.old []) text.now }
 {
-    let number = refusal(z, text, flash, spare);
-    if number != 0 {
-        return Answer::Refused(number);
+    if let Err(refusal) = check_text(z, text, flash, spare) {
+        return Answer::Refused(refusal.number());
     }
     area::fill(flash, 255);
     area::fill(spare, 255);

@@ -6,7 +6,7 @@ use mathlib.Core.List.{List, [], ◌∷◌, ◌++◌, map}
 use native.Mathlib.Numerals.{add-one}
 use native.Mathlib.Omega.{arith}
 use lib.ListN.{length, take, drop, get_or, length-append, length-map}
-use lib.Seq.{take_at}
+use lib.Seq.{take_at, length-take-le}
 use lib.Dec.{eqb}
 use borrow.Author.Tests.{lt-ltb, eq-eqb, ne_eqb}
 use Rattle.std.specs.Prelude.{if◌then◌else◌}
@@ -168,6 +168,17 @@ module _ (z : Sizes) (d : Device) where
 
     pub column_fits : length order ≤ length (last ++ drop (length order) room)
     column_fits = lent_fits (length order) room e (column-length t o refl)
+
+    pub again-length : length (take (length order) (last ++ drop (length order) room)) ≡ length order
+    again-length = ap length column_again ∙ column-length t o refl
+
+  -- the front of an array that is lent for a column
+  module _ (limits : Limits z) {order : List ℕ} (o : order ≡ in_order z d) (room : List ℕ) (size : length room ≡ 256) where
+    pub room-fits : length order ≤ length room
+    room-fits = omega (arith, size, order_fits limits o)
+
+    pub room-length : length (take (length order) room) ≡ length order
+    room-length = length-take-le (length order) room room-fits
 
   abbrev pub spent : List ℕ
   spent = buckets z d (is_spent z d)

@@ -66,16 +66,13 @@ fn kept_queue(
     requires order_len_bound { length (differing column.now dropped.now order.now) ≤ 64 }
     ensures { entries_of result ≡ map (entry_of z (spare_only spare.now) counted) (differing column.now dropped.now order.now) }
 {
-    let none = Queue::empty();
-    let mut items = none.items;
+    let mut items = Queue::empty().items;
     let mut n = 0;
-    let mut i = 0;
-    while i < order.len() {
+    for (i, c) in order.iter().enumerate() {
         if column[i] != dropped[i] {
-            items[n] = entry_of(z, order[i], counted, spare);
+            items[n] = entry_of(z, *c, counted, spare);
             n += 1;
         }
-        i += 1;
     }
     Queue { items, len: n }
 }
@@ -88,13 +85,11 @@ fn gather(order: &[u8], column: &[u16], list: Fifo) -> Fifo
 {
     let mut n = list.used();
     let mut items = list.items;
-    let mut i = 0;
-    while i < order.len() {
+    for (i, c) in order.iter().enumerate() {
         if column[i] != classes::NOWHERE {
-            items[n] = order[i];
+            items[n] = *c;
             n += 1;
         }
-        i += 1;
     }
     Fifo { items, len: n }
 }
@@ -333,10 +328,8 @@ pub fn recover(
 ) -> Outcome
     ensures { handed_back (device flash.new spare.new disk.new) [] result ≡ handed s (call allowance (recover_call z) (view_of s) (device flash.old spare.old disk.old)) }
 {
-    let number = checks::recover_refusal(z, flash, spare, disk);
-    if number == 0 {
-        recover_chip(s, z, allowance, flash, spare, disk)
-    } else {
-        outcome::refused(number, s)
+    match checks::check_recover(z, flash, spare, disk) {
+        Ok(()) => recover_chip(s, z, allowance, flash, spare, disk),
+        Err(refusal) => outcome::refused(refusal.number(), s),
     }
 }

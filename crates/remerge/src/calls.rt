@@ -19,12 +19,29 @@ pub struct Run {
 }
 
 #[derive(Clone, Copy)]
+enum Operation {
+    Drain,
+    EraseStep,
+    Read,
+    Write,
+}
+
+#[derive(Clone, Copy)]
 struct Call {
-    kind: usize,
+    operation: Operation,
     b: u16,
     offset: usize,
     length: usize,
     allowance: usize,
+}
+
+fn drawn_operation(seed: u32) -> Operation {
+    match random::below(seed, 16) {
+        0 => Operation::Drain,
+        1..=3 => Operation::EraseStep,
+        4..=5 => Operation::Read,
+        _ => Operation::Write,
+    }
 }
 
 // A whole bucket, a few bytes, or any number of them.
@@ -32,15 +49,12 @@ fn log_length(seed: u32, size: usize) -> usize
     requires { 1 ≤ size }
     ensures { (1 ≤ result) × (result ≤ size) }
 {
-    let kind = random::below(seed, 8);
     let next = random::next(seed);
-    if kind == 0 {
-        return size;
+    match random::below(seed, 8) {
+        0 => size,
+        1..=3 => random::below(next, size.min(8)) + 1,
+        _ => random::below(next, size) + 1,
     }
-    if kind < 4 {
-        return random::below(next, merge::smaller(size, 8)) + 1;
-    }
-    random::below(next, size) + 1
 }
 
 // One call in three may be cut: a write makes at most 2P + 5 stores, or 8 where a bucket has one page.
@@ -64,7 +78,7 @@ fn drawn(z: Sizes, seed: u32, size: usize) -> Call
     let fourth = random::next(third);
     let length = log_length(second, size);
     Call {
-        kind: random::below(seed, 16),
+        operation: drawn_operation(seed),
         b: random::below(third, z.b) as u16,
         offset: random::below(fourth, size - length + 1),
         length,
@@ -80,41 +94,31 @@ fn make(
     spare: &mut [u8],
     disk: &mut [u8],
 ) -> Outcome {
-    let kind = call.kind;
     let n = call.allowance;
-    match kind {
-        0 => drain::drain(s, n, flash, spare, disk),
-        1 | 2 | 3 => erasestep::erase_step(s, n, flash, spare, disk),
-        4 | 5 => read::read(s, call.b, call.offset, bytes, n, flash, spare, disk),
-        _ => write::write(s, call.b, call.offset, bytes, n, flash, spare, disk),
-    }
-}
-
-fn is_cut(answer: Answer) -> bool {
-    match answer {
-        Answer::Cut => true,
-        Answer::Done => false,
-        Answer::Idle => false,
-        Answer::Refused(_) => false,
+    match call.operation {
+        Operation::Drain => drain::drain(s, n, flash, spare, disk),
+        Operation::EraseStep => erasestep::erase_step(s, n, flash, spare, disk),
+        Operation::Read => read::read(s, call.b, call.offset, bytes, n, flash, spare, disk),
+        Operation::Write => write::write(s, call.b, call.offset, bytes, n, flash, spare, disk),
     }
 }
 
 fn after(seed: u32, o: Outcome) -> Run {
-    let reply = o.answer;
-    let cut = is_cut(reply);
-    let state = o.state;
-    Run { state, seed, cut }
+    Run {
+        state: o.state,
+        seed,
+        cut: matches!(o.answer, Answer::Cut),
+    }
 }
 
 fn any_call(run: Run, z: Sizes, flash: &mut [u8], spare: &mut [u8], disk: &mut [u8]) -> Run
     requires { Limits z }
 {
     let seed = random::next(run.seed);
-    let call = drawn(z, seed, merge::smaller(sizes::bucket(z), 4096));
+    let call = drawn(z, seed, sizes::bucket(z).min(4096));
     let mut bytes = random::bytes(seed);
     let n = call.length;
-    let s = run.state;
-    let o = make(s, call, &mut bytes[..n], flash, spare, disk);
+    let o = make(run.state, call, &mut bytes[..n], flash, spare, disk);
     after(seed, o)
 }
 
@@ -122,8 +126,7 @@ fn recovery(run: Run, z: Sizes, flash: &mut [u8], spare: &mut [u8], disk: &mut [
     requires { Limits z }
 {
     let seed = random::next(run.seed);
-    let s = run.state;
-    let o = recover::recover(s, z, allowance(z, seed), flash, spare, disk);
+    let o = recover::recover(run.state, z, allowance(z, seed), flash, spare, disk);
     after(seed, o)
 }
 

@@ -6,7 +6,7 @@ ghost use Rattle.model.specs.State.{is_below};
 ghost use Rattle.overlay.specs.Window.{Readable};
 
 use crate::tally::Tally;
-use crate::{listed, random, sizes, tally, windows, within};
+use crate::{listed, random, sizes, windows, within};
 use model::Sizes;
 
 // The piece number `index` of an area of pieces of so many bytes.
@@ -60,8 +60,10 @@ fn compare_listed(
     let on_chip = piece(flash, size, c);
     let lent = compare_over(z, list, c, seed, on_disk, on_disk, flash, spare);
     let own = compare_over(z, list, c, seed, &disk[..0], on_chip, flash, spare);
-    let both = lent.and(own);
-    both.and(tally::seen(listed::abandoned(z, list, spare)))
+    lent.and(own).and(Tally {
+        abandoned: listed::abandoned(z, list, spare),
+        ..Tally::default()
+    })
 }
 
 fn compare_back(z: Sizes, b: usize, seed: u32, flash: &[u8], spare: &[u8], disk: &[u8]) -> Tally
@@ -79,21 +81,19 @@ fn compare_all(z: Sizes, seed: u32, flash: &[u8], spare: &[u8], disk: &[u8]) -> 
     requires readable { Readable z flash.now spare.now }
     requires disk_len { length disk.now ≡ disk_size z }
 {
-    let mut tally = Tally::empty();
+    let mut tally = Tally::default();
     let mut s = seed;
-    let mut b = 0;
-    while b < z.b {
+    for b in 0..z.b {
         s = random::next(s);
         tally = tally.and(compare_back(z, b, s, flash, spare, disk));
-        b += 1;
     }
     tally
 }
 
 // Every back-end bucket, if the chip passes numbers 1, 2 and 4.
 pub fn compare(z: Sizes, seed: u32, flash: &[u8], spare: &[u8], disk: &[u8]) -> Tally {
-    if checks::image_refusal(z, flash, spare, disk) != 0 {
-        return Tally::empty();
+    if checks::check_image(z, flash, spare, disk).is_err() {
+        return Tally::default();
     }
     compare_all(z, seed, flash, spare, disk)
 }

@@ -19,7 +19,7 @@ ghost use Rattle.model.proofs.Limits.{Limits};
 
 use model::Sizes;
 use std::io;
-use std::io::Stdout;
+use std::io::{Stdout, Write};
 use tally::Tally;
 
 // Calls on each chip.
@@ -29,14 +29,12 @@ const CALLS: usize = 300;
 fn compare_chips(z: Sizes, flash: &mut [u8], spare: &mut [u8], disk: &mut [u8]) -> Tally
     requires { Limits z }
 {
-    let mut tally = Tally::empty();
+    let mut tally = Tally::default();
     let mut run = calls::begin(1, z, flash, spare, disk);
-    let mut i = 0;
-    while i < CALLS {
+    for _ in 0..CALLS {
         run = calls::step(run, z, flash, spare, disk);
         tally = tally.and(tear::after_call(run.cut, z, run.seed, flash, spare, disk));
         tally = tally.and(compare::compare(z, run.seed, flash, spare, disk));
-        i += 1;
     }
     tally
 }
@@ -49,31 +47,28 @@ fn compare_sizes(z: Sizes) -> Tally
     let mut spare = [0u8; 8192];
     let mut disk = [0u8; 8192];
     let bucket = sizes::bucket(z);
-    let chip = merge::smaller(z.c * bucket, 32768);
-    let tags = merge::smaller(z.c * z.p * 16, 8192);
-    let end = merge::smaller(z.b * bucket, 8192);
+    let chip = (z.c * bucket).min(32768);
+    let tags = (z.c * z.p * 16).min(8192);
+    let end = (z.b * bucket).min(8192);
     compare_chips(z, &mut flash[..chip], &mut spare[..tags], &mut disk[..end])
 }
 
-fn compare_row(out: Stdout, row: [u16; 6]) -> io::Result<Tally> {
-    let z = sizes::sizes_of(row);
+// The sizes of a chip, and what was compared on it. What are no sizes is left out.
+fn compare_chip(mut out: Stdout, z: Sizes) -> io::Result<Tally> {
     if !geometry::limits(z) {
-        return Ok(Tally::empty());
+        return Ok(Tally::default());
     }
-    tally::print_sizes(out, z)?;
     let tally = compare_sizes(z);
-    tally::print(out, tally)?;
+    let Sizes { s, p, c, b, .. } = z;
+    writeln!(out, "S {s} P {p} C {c} B {b}: {tally}")?;
     Ok(tally)
 }
 
 fn main(rt: HostRuntime) -> io::Result<()> {
-    let out = rt.stdout();
-    let mut all = Tally::empty();
-    let mut i = 0;
-    while i < sizes::COUNT {
-        all = all.and(compare_row(out, sizes::SIZES[i])?);
-        i += 1;
+    let mut out = rt.stdout();
+    let mut all = Tally::default();
+    for z in sizes::chips() {
+        all = all.and(compare_chip(out, z)?);
     }
-    out.write_all(b"all")?;
-    tally::print(out, all)
+    writeln!(out, "all: {all}")
 }

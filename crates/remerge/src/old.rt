@@ -13,10 +13,8 @@ pub fn lay_over(z: Sizes, list: &[u8], from: usize, flash: &[u8], spare: &[u8], 
     requires list_value { all (is_below (body z)) list.now ≡ true }
     requires window_bound { from + length window.old ≤ bucket_size z }
 {
-    let mut i = 0;
-    while i < list.len() {
-        merge::merge_range(z, list[i] as usize, from, flash, spare, window);
-        i += 1;
+    for c in list {
+        merge::merge_range(z, usize::from(*c), from, flash, spare, window);
     }
 }
 
@@ -25,7 +23,7 @@ pub fn show(bytes: &[u8], from: usize, window: &mut [u8])
     requires { from + length window.old ≤ length bytes.now }
 {
     let end = from + window.len();
-    area::copy_over(window, &bytes[from..end]);
+    window.copy_from_slice(&bytes[from..end]);
 }
 
 pub fn lay_out(
@@ -63,7 +61,7 @@ pub fn lay_within(
     requires target_lt_c { (target < z.c) × (n ≤ bucket_size z) }
     requires chip_len { length chip.old ≡ length flash.now }
 {
-    area::copy_over(chip, flash);
+    chip.copy_from_slice(flash);
     let at = target * sizes::bucket(z);
     let end = at + n;
     lay_out(z, list, 0, flash, spare, under, &mut chip[at..end]);

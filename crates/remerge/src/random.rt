@@ -2,7 +2,7 @@
 ghost use Rattle.std.specs.Prelude.{◌<◌, ◌≤◌};
 
 pub fn next(seed: u32) -> u32 {
-    ((seed as u64 * 1103515245 + 12345) % 4294967296) as u32
+    seed.wrapping_mul(1103515245).wrapping_add(12345)
 }
 
 // A number below n.
@@ -15,11 +15,9 @@ pub fn below(seed: u32, n: usize) -> usize
 
 pub fn fill(seed: u32, bytes: &mut [u8]) {
     let mut s = seed;
-    let mut i = 0;
-    while i < bytes.len() {
+    for byte in bytes.iter_mut() {
         s = next(s);
-        bytes[i] = (s / 65536 % 256) as u8;
-        i += 1;
+        *byte = (s / 65536 % 256) as u8;
     }
 }
 

@@ -5,31 +5,23 @@ ghost use Rattle.model.proofs.Limits.{Limits};
 
 use model::Sizes;
 
-pub const COUNT: usize = 10;
+fn chip(s: usize, p: usize, c: usize, b: usize, r: usize, w: usize) -> Sizes {
+    Sizes { s, p, c, b, r, w }
+}
 
-// S, P, C, B, R, W.
-pub const SIZES: [[u16; 6]; COUNT] = [
-    [4, 1, 5, 1, 1, 1],
-    [5, 1, 9, 2, 1, 2],
-    [4, 2, 8, 3, 1, 2],
-    [7, 3, 12, 3, 2, 1],
-    [5, 8, 16, 3, 2, 3],
-    [16, 4, 12, 4, 1, 2],
-    [13, 16, 16, 2, 2, 2],
-    [64, 8, 10, 3, 1, 2],
-    [1024, 2, 6, 2, 1, 1],
-    [64, 64, 8, 2, 1, 2],
-];
-
-pub fn sizes_of(row: [u16; 6]) -> Sizes {
-    Sizes {
-        s: row[0] as usize,
-        p: row[1] as usize,
-        c: row[2] as usize,
-        b: row[3] as usize,
-        r: row[4] as usize,
-        w: row[5] as usize,
-    }
+pub fn chips() -> [Sizes; 10] {
+    [
+        chip(4, 1, 5, 1, 1, 1),
+        chip(5, 1, 9, 2, 1, 2),
+        chip(4, 2, 8, 3, 1, 2),
+        chip(7, 3, 12, 3, 2, 1),
+        chip(5, 8, 16, 3, 2, 3),
+        chip(16, 4, 12, 4, 1, 2),
+        chip(13, 16, 16, 2, 2, 2),
+        chip(64, 8, 10, 3, 1, 2),
+        chip(1024, 2, 6, 2, 1, 1),
+        chip(64, 64, 8, 2, 1, 2),
+    ]
 }
 
 // The bytes of a bucket.

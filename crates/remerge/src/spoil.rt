@@ -1,5 +1,5 @@
 // Programs that a cut spoils: spare state 0, and any other bytes.
-ghost use Rattle.std.specs.Prelude.{◌≡◌, ◌<◌, length};
+ghost use Rattle.std.specs.Prelude.{◌≡◌, ◌<◌, length, IfSome};
 ghost use Rattle.model.specs.Sizes.{flash_size};
 ghost use Rattle.image.specs.Chip.{Chip};
 
@@ -22,31 +22,31 @@ fn spoil_page(z: Sizes, c: usize, k: usize, seed: u32, flash: &mut [u8], spare: 
     spare[tag] = 0;
 }
 
-// The first blank page of bucket c; P, if it has none.
-fn first_blank(z: Sizes, c: usize, spare: &[u8]) -> usize
+// The first blank page of bucket c.
+fn first_blank(z: Sizes, c: usize, spare: &[u8]) -> Option<usize>
     requires chip { Chip z spare.now }
     requires c_lt_c { c < z.c }
+    ensures { IfSome result (λ k. k < z.p) }
 {
-    let mut k = 0;
-    while k < z.p {
+    for k in 0..z.p {
         if image::page_blank(z, c, k, spare) {
-            return k;
+            return Some(k);
         }
-        k += 1;
     }
-    z.p
+    None
 }
 
-// The first blank page of bucket c, if a log or a copy may go there: it is a Write bucket's, or the bucket has none before it. P, if not.
-fn next_page(z: Sizes, c: usize, spare: &[u8]) -> usize
+// The first blank page of bucket c, if a log or a copy may go there: it is a Write bucket's, or the bucket has none before it.
+fn next_page(z: Sizes, c: usize, spare: &[u8]) -> Option<usize>
     requires chip { Chip z spare.now }
     requires c_lt_c { c < z.c }
+    ensures { IfSome result (λ k. k < z.p) }
 {
-    let k = first_blank(z, c, spare);
+    let k = first_blank(z, c, spare)?;
     if (k == 0) | image::is_write(z, c, spare) {
-        k
+        Some(k)
     } else {
-        z.p
+        None
     }
 }
 
@@ -61,10 +61,9 @@ pub fn spoil_some(z: Sizes, seed: u32, flash: &mut [u8], spare: &mut [u8]) -> us
         return 0;
     }
     let c = random::below(third, geometry::body(z));
-    let k = next_page(z, c, spare);
-    if z.p <= k {
+    let Some(k) = next_page(z, c, spare) else {
         return 0;
-    }
+    };
     spoil_page(z, c, k, third, flash, spare);
     1
 }

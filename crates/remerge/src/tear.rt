@@ -4,7 +4,7 @@ ghost use Rattle.model.specs.Sizes.{flash_size};
 ghost use Rattle.image.specs.Chip.{Chip};
 
 use crate::tally::Tally;
-use crate::{random, spoil, tally};
+use crate::{random, spoil};
 use model::Sizes;
 
 // Page k of bucket c is blank.
@@ -14,8 +14,12 @@ fn blank_page(z: Sizes, c: usize, k: usize, flash: &mut [u8], spare: &mut [u8])
     requires c_lt_c { (c < z.c) × (k < z.p) }
 {
     let page = c * z.p + k;
-    area::fill_at(flash, page * z.s, z.s, 255);
-    area::fill_at(spare, page * 16, 16, 255);
+    let data = page * z.s;
+    let data_end = data + z.s;
+    flash[data..data_end].fill(255);
+    let tag = page * 16;
+    let tag_end = tag + 16;
+    spare[tag..tag_end].fill(255);
 }
 
 // Some pages of bucket c are blank. Returns whether one of them was programmed.
@@ -26,14 +30,11 @@ fn tear_bucket(z: Sizes, c: usize, seed: u32, flash: &mut [u8], spare: &mut [u8]
 {
     let mut lost = false;
     let mut s = seed;
-    let mut k = 0;
-    while k < z.p {
-        let page = k;
+    for k in 0..z.p {
         s = random::next(s);
-        k += 1;
         if random::below(s, 2) == 1 {
-            lost = lost | !image::page_blank(z, c, page, spare);
-            blank_page(z, c, page, flash, spare);
+            lost = lost | !image::page_blank(z, c, k, spare);
+            blank_page(z, c, k, flash, spare);
         }
     }
     lost
@@ -46,14 +47,11 @@ fn tear_named(z: Sizes, seed: u32, flash: &mut [u8], spare: &mut [u8]) -> usize
 {
     let end = geometry::body(z);
     let marks = ledger::named(z, spare);
-    let mut count = 0;
-    let mut c = 0;
-    while c < end {
-        let bucket = c;
-        c += 1;
-        if marks[bucket] {
-            let lost = tear_bucket(z, bucket, seed, flash, spare);
-            count = tally::sum(count, tally::as_number(lost));
+    let mut count: usize = 0;
+    for c in 0..end {
+        if marks[c] {
+            let lost = tear_bucket(z, c, seed, flash, spare);
+            count = count.wrapping_add(usize::from(lost));
         }
     }
     count
@@ -65,10 +63,16 @@ fn damage(z: Sizes, seed: u32, flash: &mut [u8], spare: &mut [u8]) -> Tally
     requires flash_len { length flash.old ≡ flash_size z }
 {
     let torn = tear_named(z, seed, flash, spare);
-    if torn != 0 {
-        return tally::torn(torn);
+    let spoiled = if torn == 0 {
+        spoil::spoil_some(z, seed, flash, spare)
+    } else {
+        0
+    };
+    Tally {
+        torn,
+        spoiled,
+        ..Tally::default()
     }
-    tally::spoiled(spoil::spoil_some(z, seed, flash, spare))
 }
 
 // While both ledger buckets are in use, what came next may be an erase of one of theirs, and nothing is done.
@@ -81,13 +85,13 @@ pub fn after_call(
     disk: &[u8],
 ) -> Tally {
     if !cut {
-        return Tally::empty();
+        return Tally::default();
     }
-    if geometry::lent_refusal(z, flash, spare, disk) != 0 {
-        return Tally::empty();
+    if geometry::check_lent(z, flash, spare, disk).is_err() {
+        return Tally::default();
     }
     if !ledger::one_in_use(z, spare) {
-        return Tally::empty();
+        return Tally::default();
     }
     damage(z, seed, flash, spare)
 }

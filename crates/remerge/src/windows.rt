@@ -25,17 +25,19 @@ pub fn window_of(z: Sizes, i: usize, seed: u32) -> Window
     ensures { (result.from + result.length ≤ bucket_size z) × (result.length ≤ 4096) }
 {
     let size = sizes::bucket(z);
-    if i == 0 {
-        let length = merge::smaller(size, 4096);
-        return Window { from: 0, length };
-    }
     let from = random::below(seed, size);
-    if i == 1 {
-        return Window { from, length: 1 };
-    }
     let some = random::below(random::next(seed), size - from) + 1;
-    let length = merge::smaller(some, 4096);
-    Window { from, length }
+    match i {
+        0 => Window {
+            from: 0,
+            length: size.min(4096),
+        },
+        1 => Window { from, length: 1 },
+        _ => Window {
+            from,
+            length: some.min(4096),
+        },
+    }
 }
 
 // A window by either merge: laid out, and then over the bytes that it shows.
@@ -105,14 +107,12 @@ pub fn compare_windows(
     requires list_value { all (is_below (body z)) list.now ≡ true }
     requires under_len { length under.now ≡ bucket_size z }
 {
-    let mut tally = Tally::empty();
+    let mut tally = Tally::default();
     let mut s = seed;
-    let mut i = 0;
-    while i < WINDOWS {
+    for i in 0..WINDOWS {
         s = random::next(s);
         let one = compare_window(z, list, window_of(z, i, s), flash, spare, under);
         tally = tally.and(one);
-        i += 1;
     }
     tally
 }

@@ -43,7 +43,7 @@ fn compare_flashes(
     let target = place.target;
     let n = place.length;
     old::lay_within(z, list, bytes, target, n, flash, spare, one);
-    area::copy_over(other, flash);
+    other.copy_from_slice(flash);
     overlay::lay_within(z, list, place.base, under, target, n, other, spare);
     tally::compared(list.len(), one, other)
 }
@@ -65,7 +65,7 @@ fn compare_place(
 {
     let n = flash.len();
     if CHIP < n {
-        return Tally::empty();
+        return Tally::default();
     }
     let mut one = [0u8; CHIP];
     let mut other = [0u8; CHIP];
@@ -99,14 +99,13 @@ pub fn compare_within(
     requires fact { (length under.now ≡ bucket_size z) ⊎ (length under.now ≡ 0) }
 {
     let next = random::next(seed);
-    let target = listed::next_unlisted(z, random::below(next, z.c), list);
     let last = random::next(next);
     let part = windows::window_of(z, random::below(last, 3), last);
-    if z.c <= target {
-        return Tally::empty();
-    }
+    let Some(target) = listed::next_unlisted(z, random::below(next, z.c), list) else {
+        return Tally::default();
+    };
     if target == base {
-        return Tally::empty();
+        return Tally::default();
     }
     let place = Place {
         base,

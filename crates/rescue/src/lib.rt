@@ -23,20 +23,8 @@ use model::Sizes;
 // So many places of a column are compared with a number at once.
 const PART: usize = 16;
 
-// Whether the number stands in the column. With no way out of the loop it is compared with many at a time.
-fn occurs(x: u16, column: &[u16]) -> bool
-    ensures { result ≡ member x column.now }
-{
-    let mut found = false;
-    let mut i = 0;
-    while i < column.len() {
-        found = found | (x == column[i]);
-        i += 1;
-    }
-    found
-}
-
-// Passes over parts of the column that the number does not stand in, from one place on.
+// Passes over parts of the column that the number does not stand in, from one place on. A `while`, since the place is what is wanted: chunks would be
+// counted, and the count multiplied again.
 fn skip_parts(x: u16, column: &[u16], from: usize) -> usize
     requires { from ≤ length column.now }
     ensures { Passed x column.now from result }
@@ -44,7 +32,7 @@ fn skip_parts(x: u16, column: &[u16], from: usize) -> usize
     let mut at = from;
     while at + PART <= column.len() {
         let end = at + PART;
-        if occurs(x, &column[at..end]) {
+        if order::occurs(x, &column[at..end]) {
             return at;
         }
         at = end;
@@ -57,14 +45,12 @@ fn next_index(x: u16, column: &[u16], from: usize) -> usize
     requires { from ≤ length column.now }
     ensures { Passed x column.now from result × (result < length column.now → x ≡ get_or column.now result 0) }
 {
-    let mut at = skip_parts(x, column, from);
-    while at < column.len() {
+    for at in skip_parts(x, column, from)..column.len() {
         if x == column[at] {
             return at;
         }
-        at += 1;
     }
-    at
+    column.len()
 }
 
 // The Write buckets of b, in the order, as the first places of a lent list; how many they are.
@@ -89,10 +75,11 @@ fn list_logs(b: u16, order: &[u8], writes: &[u16], dropped_writes: &[u16], list:
     requires order_in_bounds { length order.now ≤ length list.old }
     ensures { (result ≤ length list.old) × (take result list.new ≡ (if member b dropped_writes.now then beside b writes.now order.now else [])) }
 {
-    if occurs(b, dropped_writes) {
-        return list_writes(b, order, writes, list);
+    if order::occurs(b, dropped_writes) {
+        list_writes(b, order, writes, list)
+    } else {
+        0
     }
-    0
 }
 
 // The logs of the listed buckets lie over the copy of b, if b has one, else over the bytes that the window shows.
@@ -165,8 +152,6 @@ fn rescue_one(
     ensures disk_len { length disk.new ≡ disk_size z }
 {
     let place = units::place(meter, z, b);
-    let at = place.at;
-    let end = place.end;
     lay_rescued(
         z,
         b as u16,
@@ -176,7 +161,7 @@ fn rescue_one(
         copies,
         flash,
         spare,
-        &mut disk[at..end],
+        &mut disk[place],
     );
     meter::spent(meter, z.p)
 }
@@ -209,16 +194,8 @@ fn unwritten_backs(
     ensures { take (length order.now) result ≡ column z (spare_only spare.now) (is_unwritten z (spare_only spare.now)) }
 {
     let mut unwritten = [0u16; 256];
-    let mut i = 0;
-    while i < order.len() {
-        unwritten[i] = unwritten_back(
-            z,
-            order[i] as usize,
-            dropped_writes[i],
-            dropped_copies[i],
-            spare,
-        );
-        i += 1;
+    for (i, c) in order.iter().enumerate() {
+        unwritten[i] = unwritten_back(z, *c as usize, dropped_writes[i], dropped_copies[i], spare);
     }
     unwritten
 }

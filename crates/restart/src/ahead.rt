@@ -1,6 +1,4 @@
 // A look ahead: what one store more of a recovery would leave, on a copy of chip and disk.
-ghost use Rattle.std.specs.Prelude.{◌≤◌};
-
 use crate::pages;
 use crate::pages::PAGES;
 use model::Sizes;
@@ -9,33 +7,11 @@ use state::State;
 // No area of the program's chips is longer.
 const LONGEST: usize = 768;
 
-fn smaller(m: usize, n: usize) -> usize
-    ensures { (result ≤ m) × (result ≤ n) }
-{
-    if m < n { m } else { n }
-}
-
 fn copied(area: &[u8]) -> [u8; LONGEST] {
-    let end = smaller(area.len(), LONGEST);
+    let end = area.len().min(LONGEST);
     let mut copy = [0u8; LONGEST];
-    let mut i = 0;
-    while i < end {
-        copy[i] = area[i];
-        i += 1;
-    }
+    copy[..end].copy_from_slice(&area[..end]);
     copy
-}
-
-fn recovered_blanks(
-    s: State,
-    z: Sizes,
-    allowance: usize,
-    flash: &mut [u8],
-    spare: &mut [u8],
-    disk: &mut [u8],
-) -> [bool; PAGES] {
-    recover::recover(s, z, allowance, flash, spare, disk);
-    pages::blanks(spare)
 }
 
 // The blank pages after a recovery with its allowance.
@@ -50,15 +26,9 @@ pub fn blanks_after(
     let mut data = copied(flash);
     let mut tags = copied(spare);
     let mut units = copied(disk);
-    let n = smaller(flash.len(), LONGEST);
-    let m = smaller(spare.len(), LONGEST);
-    let k = smaller(disk.len(), LONGEST);
-    recovered_blanks(
-        s,
-        z,
-        allowance,
-        &mut data[..n],
-        &mut tags[..m],
-        &mut units[..k],
-    )
+    let data = &mut data[..flash.len().min(LONGEST)];
+    let tags = &mut tags[..spare.len().min(LONGEST)];
+    let units = &mut units[..disk.len().min(LONGEST)];
+    recover::recover(s, z, allowance, data, tags, units);
+    pages::blanks(tags)
 }

@@ -1,9 +1,10 @@
 // The restart: recovery cut after every number of stores, its erases stopped halfway, then every back-end bucket read; a write, and all that again.
-ghost use Rattle.std.specs.Prelude.{◌≤◌, ◌<◌};
+ghost use Rattle.std.specs.Prelude.{◌≤◌};
 
+use crate::row::Call;
 use crate::run::Run;
 use crate::{ahead, pages, plain, row, run, tear};
-use model::Sizes;
+use model::{Answer, Sizes};
 use state::State;
 
 // The stores of the whole recovery, the erases that stopped halfway, the pages that were spoiled, and whether every byte read is that of the
@@ -20,20 +21,18 @@ impl Back {
     // The same, and some erases and pages more; two digits of their numbers are printed.
     pub fn and_damaged(self, torn: usize, spoiled: usize) -> Back {
         Back {
-            stores: self.stores,
             torn: self.torn % 100 + torn % 100,
             spoiled: self.spoiled % 100 + spoiled % 100,
-            kept: self.kept,
+            ..self
         }
     }
 
     // The same, and what another restart came to.
     pub fn and(self, other: Back) -> Back {
+        let both = self.and_damaged(other.torn, other.spoiled);
         Back {
-            stores: self.stores,
-            torn: self.torn % 100 + other.torn % 100,
-            spoiled: self.spoiled % 100 + other.spoiled % 100,
             kept: self.kept & other.kept,
+            ..both
         }
     }
 }
@@ -67,24 +66,13 @@ fn recover_once(
 {
     let after = ahead::blanks_after(s, z, allowance + 1, flash, spare, disk);
     let o = recover::recover(s, z, allowance, flash, spare, disk);
-    let state = o.state;
-    let reply = o.answer;
     let blanked = pages::first_blank(after, pages::blanks(spare));
-    let torn = tear::tear(z, blanked, set, flash, spare);
     Recovered {
-        state,
+        state: o.state,
         stores: o.stores,
-        torn,
-        cut: run::letter(reply) == b'C',
+        torn: tear::tear(z, blanked, set, flash, spare),
+        cut: matches!(o.answer, Answer::Cut),
     }
-}
-
-// The allowance after this one; behind a recovery that was not cut there is none.
-fn next_allowance(cut: bool, allowance: usize) -> usize
-    requires { allowance < 32 }
-    ensures { (allowance < result) × (result ≤ 32) }
-{
-    if cut { allowance + 1 } else { 32 }
 }
 
 // Recovery with no store allowed, with one, and so on until it is whole; the sets of pages take turns.
@@ -96,33 +84,24 @@ fn recover_whole(
     spare: &mut [u8],
     disk: &mut [u8],
 ) -> Recovered {
-    let mut state = s;
-    let mut stores = 0;
-    let mut torn = 0;
-    let mut cut = true;
-    let mut allowance = 0;
-    while allowance < 32 {
-        let one = recover_once(
-            state,
-            z,
-            allowance,
-            set % 16 + allowance,
-            flash,
-            spare,
-            disk,
-        );
-        state = one.state;
-        stores = one.stores;
-        torn += one.torn;
-        cut = one.cut;
-        allowance = next_allowance(cut, allowance);
+    let mut all = Recovered {
+        state: s,
+        stores: 0,
+        torn: 0,
+        cut: true,
+    };
+    for allowance in 0..32 {
+        let set = set % 16 + allowance;
+        let one = recover_once(all.state, z, allowance, set, flash, spare, disk);
+        all = Recovered {
+            torn: all.torn + one.torn,
+            ..one
+        };
+        if !all.cut {
+            return all;
+        }
     }
-    Recovered {
-        state,
-        stores,
-        torn,
-        cut,
-    }
+    all
 }
 
 fn read_into(
@@ -134,14 +113,10 @@ fn read_into(
     spare: &mut [u8],
     disk: &mut [u8],
 ) -> Read {
-    let o = read::read(s, b as u16, 0, bytes, 255, flash, spare, disk);
-    let reply = o.answer;
-    let done = run::letter(reply) == b'D';
-    let equal = plain::same(plain, b, bytes);
-    let state = o.state;
+    let o = read::read(s, u16::from(b), 0, bytes, run::PLENTY, flash, spare, disk);
     Read {
-        state,
-        same: done & equal,
+        state: o.state,
+        same: matches!(o.answer, Answer::Done) & plain::same(plain, b, bytes),
     }
 }
 
@@ -156,18 +131,11 @@ fn read_bucket(
     disk: &mut [u8],
 ) -> Read {
     let mut bytes = row::data_of(0);
-    let n = row::length_of(z, [b'R', 0, 0, 0, (z.p % 256) as u8, 0]);
+    let n = row::length_of(z, z.p, 0);
     read_into(s, plain, b, &mut bytes[..n], flash, spare, disk)
 }
 
-// The plain disk holds four back-end buckets.
-fn buckets(z: Sizes) -> usize
-    ensures { result ≤ 4 }
-{
-    if z.b < 4 { z.b } else { 4 }
-}
-
-// The whole of every back-end bucket.
+// The whole of every back-end bucket; the plain disk holds four.
 fn read_all(
     s: State,
     z: Sizes,
@@ -176,48 +144,43 @@ fn read_all(
     spare: &mut [u8],
     disk: &mut [u8],
 ) -> Read {
-    let end = buckets(z);
-    let mut state = s;
-    let mut same = true;
-    let mut b = 0;
-    while b < end {
-        let one = read_bucket(state, z, plain, b as u8, flash, spare, disk);
-        state = one.state;
-        same = same & one.same;
-        b += 1;
+    let mut all = Read {
+        state: s,
+        same: true,
+    };
+    for b in 0..z.b.min(4) as u8 {
+        let one = read_bucket(all.state, z, plain, b, flash, spare, disk);
+        all = Read {
+            same: all.same & one.same,
+            ..one
+        };
     }
-    Read { state, same }
+    all
 }
 
-// The write after the restart: where the first cut write spoiled the page that it would have appended, this one goes behind it.
-const NEXT: [u8; 6] = [b'W', 255, 0, 0, 1, 0];
-
-// Whether every byte read is that of the plain disk after one more write and a recovery.
+// Whether every byte read is that of the plain disk after one more write and a recovery. Where the first cut write spoiled the page that it would
+// have appended, this one goes behind it.
 fn kept_again(run: Run, z: Sizes, flash: &mut [u8], spare: &mut [u8], disk: &mut [u8]) -> bool {
-    let next = run::make_row(run, z, NEXT, 98, flash, spare, disk);
-    let s = next.state;
-    let o = recover::recover(s, z, 255, flash, spare, disk);
-    let state = o.state;
-    let plain = next.plain;
-    let read = read_all(state, z, plain, flash, spare, disk);
-    read.same
+    let call = Call::write(0, 0, 1, 0);
+    let next = run::make(run, z, call, run::PLENTY, 98, flash, spare, disk);
+    let o = recover::recover(next.state, z, run::PLENTY, flash, spare, disk);
+    read_all(o.state, z, next.plain, flash, spare, disk).same
 }
 
 pub fn restart(
-    mut run: Run,
+    run: Run,
     z: Sizes,
     set: usize,
     flash: &mut [u8],
     spare: &mut [u8],
     disk: &mut [u8],
 ) -> Back {
-    let s = run.state;
-    let after = recover_whole(s, z, set, flash, spare, disk);
-    let state = after.state;
-    let plain = run.plain;
-    let read = read_all(state, z, plain, flash, spare, disk);
-    let state = read.state;
-    run.state = state;
+    let after = recover_whole(run.state, z, set, flash, spare, disk);
+    let read = read_all(after.state, z, run.plain, flash, spare, disk);
+    let run = Run {
+        state: read.state,
+        ..run
+    };
     let again = kept_again(run, z, flash, spare, disk);
     Back {
         stores: after.stores,

@@ -1,14 +1,16 @@
 // Calls cut after no store, after one, and so on until they are whole, each on the mix anew; an erase that came next stopped halfway, or the page
 // of a program that came next spoiled.
-ghost use Rattle.std.specs.Prelude.{◌≤◌};
+ghost use Rattle.std.specs.Prelude.{◌<◌, ◌≤◌, IfSome};
 
 use crate::back::Back;
-use crate::pages::{PAGES, Page};
+use crate::pages::PAGES;
+use crate::row::Call;
 use crate::run::Run;
+use crate::spoil::Program;
 use crate::{back, pages, run, spoil, tear};
-use model::Sizes;
+use model::{Answer, Sizes};
 use std::io;
-use std::io::Stdout;
+use std::io::{Stdout, Write};
 
 // A cut call, and what the restart behind it came to.
 #[derive(Clone, Copy)]
@@ -17,99 +19,100 @@ struct Way {
     back: Back,
 }
 
-// The store that came next: the first page that it blanked and the page that it programmed, PAGES where it did not, and what it programmed there.
+// The store that came next: the first page that it blanked, and what it programmed.
 #[derive(Clone, Copy)]
 struct Next {
-    blanked: usize,
-    programmed: usize,
-    program: Page,
+    blanked: Option<usize>,
+    program: Option<Program>,
 }
 
-// Writes that append, evict their own bucket or a victim, by the chip; reads that hit and that evict; an erase step; a drain. The allowance is
-// set for each cut.
-const CUT: [[u8; 6]; 7] = [
-    [b'W', 0, 0, 0, 1, 0],
-    [b'W', 0, 1, 0, 1, 0],
-    [b'W', 0, 3, 0, 1, 0],
-    [b'R', 0, 0, 0, 1, 0],
-    [b'R', 0, 1, 0, 1, 0],
-    [b'E', 0, 0, 0, 0, 0],
-    [b'D', 0, 0, 0, 0, 0],
-];
-
-fn tens(n: usize) -> u8 {
-    b'0' + (n / 10 % 10) as u8
+// Writes that append, evict their own bucket or a victim, by the chip; reads that hit and that evict; an erase step; a drain.
+fn cut_calls() -> [Call; 7] {
+    [
+        Call::write(0, 0, 1, 0),
+        Call::write(1, 0, 1, 0),
+        Call::write(3, 0, 1, 0),
+        Call::read(0, 0, 1, 0),
+        Call::read(1, 0, 1, 0),
+        Call::EraseStep,
+        Call::Drain,
+    ]
 }
 
-fn ones(n: usize) -> u8 {
-    b'0' + (n % 10) as u8
+fn letter_of_call(call: Call) -> char {
+    match call {
+        Call::Format => 'F',
+        Call::Read(_) => 'R',
+        Call::Write(_) => 'W',
+        Call::EraseStep => 'E',
+        Call::Drain => 'D',
+    }
+}
+
+pub fn letter_of_answer(answer: Answer) -> char {
+    match answer {
+        Answer::Done => 'D',
+        Answer::Idle => 'I',
+        Answer::Cut => 'C',
+        Answer::Refused(_) => 'R',
+    }
 }
 
 // The call, its allowance, its answer and stores; the stores of the recovery; the erases that stopped halfway, each set of pages counted; the
-// pages that were spoiled, each way counted; whether each confirmed write is there in every case.
-fn print(out: Stdout, operation: u8, allowance: usize, run: Run, back: Back) -> io::Result<()> {
-    let line = [
-        operation,
-        tens(allowance),
-        ones(allowance),
-        b' ',
-        run.answer,
-        tens(run.stores),
-        ones(run.stores),
-        b' ',
-        tens(back.stores),
-        ones(back.stores),
-        b' ',
-        tens(back.torn),
-        ones(back.torn),
-        b' ',
-        tens(back.spoiled),
-        ones(back.spoiled),
-        b' ',
-    ];
-    out.write_all(&line)?;
-    if back.kept {
-        out.write_all(b"ok\n")
-    } else {
-        out.write_all(b"LOST\n")
-    }
+// pages that were spoiled, each way counted; whether each confirmed write is there in every case. Of a number two digits are printed.
+fn print(mut out: Stdout, call: Call, allowance: usize, way: Way) -> io::Result<()> {
+    let call = letter_of_call(call);
+    let answer = letter_of_answer(way.run.answer);
+    let stores = way.run.stores % 100;
+    let again = way.back.stores % 100;
+    let torn = way.back.torn % 100;
+    let spoiled = way.back.spoiled % 100;
+    let kept = if way.back.kept { "ok" } else { "LOST" };
+    writeln!(
+        out,
+        "{call}{allowance:02} {answer}{stores:02} {again:02} {torn:02} {spoiled:02} {kept}"
+    )
 }
 
 // The mix, and the call with its allowance.
 fn cut_run(
     z: Sizes,
-    mut call: [u8; 6],
+    call: Call,
     allowance: usize,
     flash: &mut [u8],
     spare: &mut [u8],
     disk: &mut [u8],
 ) -> Run {
     let start = run::mixed(z, flash, spare, disk);
-    call[1] = (allowance % 256) as u8;
-    run::make_row(start, z, call, 99, flash, spare, disk)
+    run::make(start, z, call, allowance, 99, flash, spare, disk)
 }
 
 // What one store more changes.
 fn next_store(
     z: Sizes,
-    call: [u8; 6],
+    call: Call,
     allowance: usize,
     flash: &mut [u8],
     spare: &mut [u8],
     disk: &mut [u8],
 ) -> Next
     requires { allowance ≤ 32 }
-    ensures { (result.blanked ≤ 48) × (result.programmed ≤ 48) }
+    ensures blanked { IfSome result.blanked (λ page. page < PAGES) }
+    ensures program { IfSome result.program (λ program. program.page < PAGES) }
 {
     cut_run(z, call, allowance, flash, spare, disk);
     let before = pages::blanks(spare);
     cut_run(z, call, allowance + 1, flash, spare, disk);
     let after = pages::blanks(spare);
-    let programmed = pages::first_blank(before, after);
-    let program = pages::page_at(z, programmed, flash, spare);
+    let program = match pages::first_blank(before, after) {
+        Some(page) => Some(Program {
+            page,
+            content: pages::page_at(z, page, flash, spare),
+        }),
+        None => None,
+    };
     Next {
         blanked: pages::first_blank(after, before),
-        programmed,
         program,
     }
 }
@@ -117,7 +120,7 @@ fn next_store(
 // The cut, what it left of the next store, and the restart.
 fn one_way(
     z: Sizes,
-    call: [u8; 6],
+    call: Call,
     allowance: usize,
     next: Next,
     way: usize,
@@ -125,25 +128,26 @@ fn one_way(
     spare: &mut [u8],
     disk: &mut [u8],
 ) -> Way
-    requires { (next.blanked ≤ 48) × (next.programmed ≤ 48) }
+    requires blanked { IfSome next.blanked (λ page. page < PAGES) }
+    requires program { IfSome next.program (λ program. program.page < PAGES) }
 {
     let run = cut_run(z, call, allowance, flash, spare, disk);
     let torn = tear::tear(z, next.blanked, way, flash, spare);
-    let program = next.program;
-    let c = allowance % 16;
-    let spoiled = spoil::spoil(z, next.programmed, way, program, c, flash, spare);
+    let spoiled = spoil::spoil(z, next.program, way, allowance % 16, flash, spare);
     let back = back::restart(run, z, way, flash, spare, disk);
-    let back = back.and_damaged(torn, spoiled);
-    Way { run, back }
+    Way {
+        run,
+        back: back.and_damaged(torn, spoiled),
+    }
 }
 
 // Each set of a bucket's pages is tried, and each way to spoil a page.
-fn ways(z: Sizes, programmed: usize) -> usize
+fn ways(z: Sizes, program: Option<Program>) -> usize
     ensures { result ≤ 16 }
 {
     let sets = tear::sets(z);
-    if (programmed < PAGES) & (sets < spoil::WAYS) {
-        spoil::WAYS
+    if program.is_some() {
+        sets.max(spoil::WAYS)
     } else {
         sets
     }
@@ -151,66 +155,52 @@ fn ways(z: Sizes, programmed: usize) -> usize
 
 fn all_ways(
     z: Sizes,
-    call: [u8; 6],
+    call: Call,
     allowance: usize,
     next: Next,
     flash: &mut [u8],
     spare: &mut [u8],
     disk: &mut [u8],
 ) -> Way
-    requires { (next.blanked ≤ 48) × (next.programmed ≤ 48) }
+    requires blanked { IfSome next.blanked (λ page. page < PAGES) }
+    requires program { IfSome next.program (λ program. program.page < PAGES) }
 {
-    let first = one_way(z, call, allowance, next, 0, flash, spare, disk);
-    let run = first.run;
-    let mut back = first.back;
-    let end = ways(z, next.programmed);
-    let mut way = 1;
-    while way < end {
+    let mut all = one_way(z, call, allowance, next, 0, flash, spare, disk);
+    for way in 1..ways(z, next.program) {
         let other = one_way(z, call, allowance, next, way, flash, spare, disk);
-        back = back.and(other.back);
-        way += 1;
+        all.back = all.back.and(other.back);
     }
-    Way { run, back }
-}
-
-// Whether the call was cut.
-fn told(out: Stdout, operation: u8, allowance: usize, way: Way) -> io::Result<bool> {
-    let run = way.run;
-    let back = way.back;
-    print(out, operation, allowance, run, back)?;
-    Ok(run.answer == b'C')
+    all
 }
 
 fn cut_at(
-    out: Stdout,
     z: Sizes,
-    call: [u8; 6],
+    call: Call,
     allowance: usize,
     flash: &mut [u8],
     spare: &mut [u8],
     disk: &mut [u8],
-) -> io::Result<bool>
+) -> Way
     requires { allowance ≤ 32 }
 {
     let next = next_store(z, call, allowance, flash, spare, disk);
-    let way = all_ways(z, call, allowance, next, flash, spare, disk);
-    told(out, call[0], allowance, way)
+    all_ways(z, call, allowance, next, flash, spare, disk)
 }
 
 fn cut_everywhere(
     out: Stdout,
     z: Sizes,
-    call: [u8; 6],
+    call: Call,
     flash: &mut [u8],
     spare: &mut [u8],
     disk: &mut [u8],
 ) -> io::Result<()> {
-    let mut allowance = 0;
-    while allowance < 32 {
-        if !cut_at(out, z, call, allowance, flash, spare, disk)? {
+    for allowance in 0..32 {
+        let way = cut_at(z, call, allowance, flash, spare, disk);
+        print(out, call, allowance, way)?;
+        if !matches!(way.run.answer, Answer::Cut) {
             return Ok(());
         }
-        allowance += 1;
     }
     Ok(())
 }
@@ -222,11 +212,8 @@ pub fn cut_all(
     spare: &mut [u8],
     disk: &mut [u8],
 ) -> io::Result<()> {
-    let mut i = 0;
-    while i < 7 {
-        let call = CUT[i];
+    for call in cut_calls() {
         cut_everywhere(out, z, call, flash, spare, disk)?;
-        i += 1;
     }
     Ok(())
 }

@@ -1,5 +1,5 @@
 // The pages of the program's chips: which are blank, what one holds, and other bytes put there.
-ghost use Rattle.std.specs.Prelude.{◌≤◌};
+ghost use Rattle.std.specs.Prelude.{◌<◌, ◌≤◌, length, IfSome};
 
 use model::Sizes;
 
@@ -27,36 +27,21 @@ impl Page {
 pub fn in_bucket(z: Sizes) -> usize
     ensures { (1 ≤ result) × (result ≤ 4) }
 {
-    let pages = z.p;
-    match pages {
-        1 => 1,
-        2 => 2,
-        3 => 3,
-        _ => 4,
-    }
+    z.p.clamp(1, 4)
 }
 
 // The data bytes of a page.
 fn data_bytes(z: Sizes) -> usize
     ensures { result ≤ 16 }
 {
-    if z.s < 16 { z.s } else { 16 }
+    z.s.min(16)
 }
 
-// The byte at an index; behind the end of the area all are FF.
-fn byte_at(area: &[u8], at: usize) -> u8 {
-    if at < area.len() { area[at] } else { 255 }
-}
-
-// The sixteen bytes from an index on.
-fn sixteen(area: &[u8], at: usize) -> [u8; 16]
-    requires { at ≤ 1024 }
-{
+// The sixteen bytes from an index on; behind the end of the area all are FF.
+fn sixteen(area: &[u8], at: usize) -> [u8; 16] {
     let mut bytes = [255u8; 16];
-    let mut i = 0;
-    while i < 16 {
-        bytes[i] = byte_at(area, at + i);
-        i += 1;
+    for (byte, held) in bytes.iter_mut().zip(area.iter().skip(at)) {
+        *byte = *held;
     }
     bytes
 }
@@ -65,55 +50,37 @@ fn sixteen(area: &[u8], at: usize) -> [u8; 16]
 pub fn page_at(z: Sizes, page: usize, flash: &[u8], spare: &[u8]) -> Page
     requires { page ≤ 64 }
 {
-    let tag = sixteen(spare, page * 16);
-    let data = sixteen(flash, page * data_bytes(z));
-    Page { tag, data }
-}
-
-fn is_blank(spare: &[u8], page: usize) -> bool
-    requires { page ≤ 64 }
-{
-    let tag = sixteen(spare, page * 16);
-    let mut blank = true;
-    let mut i = 0;
-    while i < 16 {
-        blank = blank & (tag[i] == 255);
-        i += 1;
+    Page {
+        tag: sixteen(spare, page * 16),
+        data: sixteen(flash, page * data_bytes(z)),
     }
-    blank
 }
 
 // Which pages are blank.
 pub fn blanks(spare: &[u8]) -> [bool; PAGES] {
     let mut blank = [false; PAGES];
-    let mut page = 0;
-    while page < PAGES {
-        blank[page] = is_blank(spare, page);
-        page += 1;
+    for page in 0..PAGES {
+        blank[page] = sixteen(spare, page * 16) == [255; 16];
     }
     blank
 }
 
-// The first page that is blank in one and not in the other; PAGES if there is none.
-pub fn first_blank(one: [bool; PAGES], other: [bool; PAGES]) -> usize
-    ensures { result ≤ 48 }
+// The first page that is blank in one and not in the other.
+pub fn first_blank(one: [bool; PAGES], other: [bool; PAGES]) -> Option<usize>
+    ensures { IfSome result (λ page. page < PAGES) }
 {
-    let mut page = 0;
-    while page < PAGES {
-        if one[page] & !other[page] {
-            return page;
-        }
-        page += 1;
-    }
-    PAGES
+    one.iter()
+        .zip(other.iter())
+        .position(|(one, other)| *one & !*other)
 }
 
-// Copies the first n bytes into the area from an index on, if it has the place.
-fn put_part(area: &mut [u8], at: usize, bytes: [u8; 16], n: usize)
-    requires { (at ≤ 1024) × (n ≤ 16) }
+// Copies the bytes into the area from an index on, if it has the place.
+fn put_part(area: &mut [u8], at: usize, bytes: &[u8])
+    requires { (at ≤ 1024) × (length bytes.now ≤ 16) }
 {
-    if at + n <= area.len() {
-        area::write_at(area, at, &bytes[..n]);
+    let end = at + bytes.len();
+    if end <= area.len() {
+        area[at..end].copy_from_slice(bytes);
     }
 }
 
@@ -122,8 +89,6 @@ pub fn put(z: Sizes, page: usize, content: Page, flash: &mut [u8], spare: &mut [
     requires { page ≤ 64 }
 {
     let n = data_bytes(z);
-    let data = content.data;
-    let tag = content.tag;
-    put_part(flash, page * n, data, n);
-    put_part(spare, page * 16, tag, 16);
+    put_part(flash, page * n, &content.data[..n]);
+    put_part(spare, page * 16, &content.tag);
 }

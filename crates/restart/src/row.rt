@@ -1,56 +1,112 @@
-// A call as a row of bytes, made on lent areas: how the program lists calls for chips of several sizes.
+// A call of a list, made on lent areas: its length is given in pages and bytes, for chips of several sizes.
 ghost use Rattle.std.specs.Prelude.{◌≤◌};
 
 use model::Sizes;
 use outcome::Outcome;
 use state::State;
 
-// The bytes that row i of a list writes; a read finds them in its buffer.
-pub fn data_of(i: usize) -> [u8; 64] {
-    let mut bytes = [0u8; 64];
-    let mut k = 0;
-    while k < 64 {
-        bytes[k] = ((i % 256 * 37 + k) % 256) as u8;
-        k += 1;
+// The most bytes that a call of a list reads or writes.
+pub const MOST: usize = 64;
+
+// What a read or a write is of: bytes of a back-end bucket from an offset on, as many as some pages and bytes have.
+#[derive(Clone, Copy)]
+pub struct Part {
+    pub back: u8,
+    pub offset: u8,
+    pub pages: u8,
+    pub bytes: u8,
+}
+
+#[derive(Clone, Copy)]
+pub enum Call {
+    Format,
+    Read(Part),
+    Write(Part),
+    EraseStep,
+    Drain,
+}
+
+impl Call {
+    pub fn read(back: u8, offset: u8, pages: u8, bytes: u8) -> Call {
+        Call::Read(Part {
+            back,
+            offset,
+            pages,
+            bytes,
+        })
+    }
+
+    pub fn write(back: u8, offset: u8, pages: u8, bytes: u8) -> Call {
+        Call::Write(Part {
+            back,
+            offset,
+            pages,
+            bytes,
+        })
+    }
+
+    // How many bytes it reads or writes.
+    pub fn length(self, z: Sizes) -> usize
+        ensures { result ≤ 64 }
+    {
+        match self {
+            Call::Read(part) | Call::Write(part) => {
+                length_of(z, usize::from(part.pages), usize::from(part.bytes))
+            }
+            _ => 0,
+        }
+    }
+}
+
+// The bytes that call i of a list writes; a read finds them in its buffer.
+pub fn data_of(i: usize) -> [u8; MOST] {
+    let mut bytes = [0u8; MOST];
+    for (k, byte) in bytes.iter_mut().enumerate() {
+        *byte = ((i % 256 * 37 + k) % 256) as u8;
     }
     bytes
 }
 
-fn at_most_64(n: usize) -> usize
+// The length of so many pages and bytes, cut to the bytes of a call's data.
+pub fn length_of(z: Sizes, pages: usize, bytes: usize) -> usize
     ensures { result ≤ 64 }
 {
-    if n < 64 { n } else { 64 }
+    (pages.min(MOST) * z.s.min(MOST) + bytes.min(MOST)).min(MOST)
 }
 
-// A row's length, which it gives as pages and bytes; it is cut to the 64 bytes of a row's data.
-pub fn length_of(z: Sizes, call: [u8; 6]) -> usize
-    ensures { result ≤ 64 }
-{
-    let page = at_most_64(z.s);
-    let pages = at_most_64(call[4] as usize);
-    let rest = at_most_64(call[5] as usize);
-    at_most_64(pages * page + rest)
-}
-
-// F format, R read, W write, E erase step, D drain; then the allowance of stores, the back-end bucket, the offset, and the length.
 pub fn make(
     s: State,
     z: Sizes,
-    call: [u8; 6],
+    call: Call,
+    allowance: usize,
     bytes: &mut [u8],
     flash: &mut [u8],
     spare: &mut [u8],
     disk: &mut [u8],
 ) -> Outcome {
-    let operation = call[0];
-    let allowance = call[1] as usize;
-    let b = call[2] as u16;
-    let offset = call[3] as usize;
-    match operation {
-        b'F' => format::format(s, z, allowance, flash, spare, disk),
-        b'R' => read::read(s, b, offset, bytes, allowance, flash, spare, disk),
-        b'W' => write::write(s, b, offset, bytes, allowance, flash, spare, disk),
-        b'E' => erasestep::erase_step(s, allowance, flash, spare, disk),
-        _ => drain::drain(s, allowance, flash, spare, disk),
+    match call {
+        Call::Format => format::format(s, z, allowance, flash, spare, disk),
+        Call::Read(part) => read::read(
+            s,
+            u16::from(part.back),
+            usize::from(part.offset),
+            bytes,
+            allowance,
+            flash,
+            spare,
+            disk,
+        ),
+        Call::Write(part) => write::write(
+            s,
+            u16::from(part.back),
+            usize::from(part.offset),
+            bytes,
+            allowance,
+            flash,
+            spare,
+            disk,
+        ),
+        Call::EraseStep => erasestep::erase_step(s, allowance, flash, spare, disk),
+        Call::Drain => drain::drain(s, allowance, flash, spare, disk),
     }
 }

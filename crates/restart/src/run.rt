@@ -1,4 +1,5 @@
 // A list under way: the engine's state, the plain disk beside it, and what the last call answered.
+use crate::row::Call;
 use crate::{plain, row};
 use model::{Answer, Sizes};
 use state::State;
@@ -7,111 +8,89 @@ use state::State;
 pub struct Run {
     pub state: State,
     pub plain: [u8; 256],
-    pub answer: u8,
+    pub answer: Answer,
     pub stores: usize,
 }
 
+// Never cuts: no call of a list makes as many stores.
+pub const PLENTY: usize = 255;
+
 // Writes and reads that fill queues and buckets of every chip, after a format.
-const MIX: [[u8; 6]; 16] = [
-    [b'F', 255, 0, 0, 0, 0],
-    [b'W', 255, 0, 0, 1, 0],
-    [b'R', 255, 0, 0, 1, 0],
-    [b'W', 255, 1, 0, 2, 0],
-    [b'R', 255, 1, 0, 1, 0],
-    [b'W', 255, 2, 3, 0, 2],
-    [b'W', 255, 3, 0, 3, 1],
-    [b'W', 255, 1, 1, 1, 1],
-    [b'R', 255, 2, 0, 1, 0],
-    [b'W', 255, 2, 0, 2, 0],
-    [b'W', 255, 0, 1, 0, 3],
-    [b'W', 255, 1, 2, 2, 0],
-    [b'W', 255, 3, 7, 2, 3],
-    [b'R', 255, 0, 0, 1, 0],
-    [b'W', 255, 0, 2, 0, 1],
-    [b'W', 255, 2, 0, 2, 0],
-];
-
-// Done, Idle, Cut or Refused.
-pub fn letter(answer: Answer) -> u8 {
-    match answer {
-        Answer::Done => b'D',
-        Answer::Idle => b'I',
-        Answer::Cut => b'C',
-        Answer::Refused(number) => b'R',
-    }
-}
-
-// The number of a refusal, 0 for any other answer.
-pub fn number(answer: Answer) -> u8 {
-    match answer {
-        Answer::Refused(number) => number,
-        _ => 0,
-    }
+fn mix() -> [Call; 16] {
+    [
+        Call::Format,
+        Call::write(0, 0, 1, 0),
+        Call::read(0, 0, 1, 0),
+        Call::write(1, 0, 2, 0),
+        Call::read(1, 0, 1, 0),
+        Call::write(2, 3, 0, 2),
+        Call::write(3, 0, 3, 1),
+        Call::write(1, 1, 1, 1),
+        Call::read(2, 0, 1, 0),
+        Call::write(2, 0, 2, 0),
+        Call::write(0, 1, 0, 3),
+        Call::write(1, 2, 2, 0),
+        Call::write(3, 7, 2, 3),
+        Call::read(0, 0, 1, 0),
+        Call::write(0, 2, 0, 1),
+        Call::write(2, 0, 2, 0),
+    ]
 }
 
 // Only a Done write changes the plain disk.
-fn plain_after(plain: [u8; 256], answer: u8, call: [u8; 6], bytes: &[u8]) -> [u8; 256] {
-    if (answer == b'D') & (call[0] == b'W') {
-        plain::laid(plain, call[2], call[3], bytes)
-    } else {
-        plain
+fn plain_after(plain: [u8; 256], answer: Answer, call: Call, bytes: &[u8]) -> [u8; 256] {
+    match (answer, call) {
+        (Answer::Done, Call::Write(part)) => plain::laid(plain, part.back, part.offset, bytes),
+        _ => plain,
     }
 }
 
 fn make_call(
     run: Run,
     z: Sizes,
-    call: [u8; 6],
+    call: Call,
+    allowance: usize,
     bytes: &mut [u8],
     flash: &mut [u8],
     spare: &mut [u8],
     disk: &mut [u8],
 ) -> Run {
-    let s = run.state;
-    let o = row::make(s, z, call, bytes, flash, spare, disk);
-    let reply = o.answer;
-    let answer = letter(reply);
-    let before = run.plain;
-    let plain = plain_after(before, answer, call, bytes);
-    let state = o.state;
+    let o = row::make(run.state, z, call, allowance, bytes, flash, spare, disk);
     Run {
-        state,
-        plain,
-        answer,
+        state: o.state,
+        plain: plain_after(run.plain, o.answer, call, bytes),
+        answer: o.answer,
         stores: o.stores,
     }
 }
 
-// A call whose data, if it writes, are those of row i.
-pub fn make_row(
+// A call whose data, if it writes, are those of number i.
+pub fn make(
     run: Run,
     z: Sizes,
-    call: [u8; 6],
+    call: Call,
+    allowance: usize,
     i: usize,
     flash: &mut [u8],
     spare: &mut [u8],
     disk: &mut [u8],
 ) -> Run {
     let mut bytes = row::data_of(i);
-    let n = row::length_of(z, call);
-    make_call(run, z, call, &mut bytes[..n], flash, spare, disk)
+    let n = call.length(z);
+    make_call(run, z, call, allowance, &mut bytes[..n], flash, spare, disk)
 }
 
 // The mix on a chip anew, with zeros on its disk.
 pub fn mixed(z: Sizes, flash: &mut [u8], spare: &mut [u8], disk: &mut [u8]) -> Run {
-    area::fill(disk, 0);
-    let state = State::unformatted();
+    disk.fill(0);
     let mut run = Run {
-        state,
+        state: State::unformatted(),
         plain: [0u8; 256],
-        answer: b'D',
+        answer: Answer::Done,
         stores: 0,
     };
-    let mut i = 0;
-    while i < 16 {
-        let call = MIX[i];
-        run = make_row(run, z, call, i, flash, spare, disk);
-        i += 1;
+    for (i, call) in mix().iter().enumerate() {
+        run = make(run, z, *call, PLENTY, i, flash, spare, disk);
     }
     run
 }

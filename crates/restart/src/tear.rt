@@ -1,5 +1,5 @@
 // Erases that stop halfway: some pages of the bucket that a store would have erased are blank.
-ghost use Rattle.std.specs.Prelude.{◌≤◌};
+ghost use Rattle.std.specs.Prelude.{◌<◌, ◌≤◌, IfSome};
 
 use crate::pages;
 use crate::pages::{PAGES, Page};
@@ -9,40 +9,23 @@ use model::Sizes;
 pub fn sets(z: Sizes) -> usize
     ensures { result ≤ 16 }
 {
-    let pages = z.p;
-    match pages {
-        1 => 2,
-        2 => 4,
-        3 => 8,
-        _ => 16,
-    }
+    1 << pages::in_bucket(z)
 }
 
-// The page is blank, if it goes.
-fn tear_page(z: Sizes, page: usize, goes: bool, flash: &mut [u8], spare: &mut [u8])
-    requires { page ≤ 64 }
-{
-    if goes {
-        pages::put(z, page, Page::filled(255), flash, spare);
-    }
-}
-
-// Of the bucket that the page stands in, the pages are blank whose bits are set; 1 if it is a page.
-pub fn tear(z: Sizes, page: usize, set: usize, flash: &mut [u8], spare: &mut [u8]) -> usize
-    requires { page ≤ 48 }
+// Of the bucket that the page stands in, the pages are blank whose bits are set. Returns how many erases were torn.
+pub fn tear(z: Sizes, page: Option<usize>, set: usize, flash: &mut [u8], spare: &mut [u8]) -> usize
+    requires { IfSome page (λ at. at < PAGES) }
     ensures { result ≤ 1 }
 {
-    if page == PAGES {
+    let Some(page) = page else {
         return 0;
-    }
+    };
     let count = pages::in_bucket(z);
     let first = page - page % count;
-    let mut bits = set;
-    let mut k = 0;
-    while k < count {
-        tear_page(z, first + k, bits % 2 == 1, flash, spare);
-        bits = bits / 2;
-        k += 1;
+    for k in 0..count {
+        if (set >> k) % 2 == 1 {
+            pages::put(z, first + k, Page::filled(255), flash, spare);
+        }
     }
     1
 }

@@ -1,11 +1,14 @@
 -- The output, case by case: a first line that is turned down, a faulty line, a text written again.
-use mathlib.Core.Path.{◌≡◌, sym, ap, ◌∙◌}
-use mathlib.Core.Bool.{true}
+use mathlib.Core.Path.{◌≡◌, refl, sym, ap, ◌∙◌}
+use mathlib.Core.Bool.{Bool, true, false}
 use mathlib.Core.List.{List, [], ◌∷◌, ◌++◌}
 use Prim.Native.Nat.{ℕ, ◌+◌, ◌*◌, ◌-◌, ◌≤◌, ◌<◌}
 use native.Mathlib.Omega.{arith}
 use native.Mathlib.Nat.{add_comm}
-use borrow.Author.Tests.{ne_eqb, leb-true}
+use borrow.Author.Tests.{ne_eqb, leb-true, leb-false}
+use lib.Dec.{leb}
+use Rattle.std.specs.Prelude.{min}
+use Rattle.std.proofs.Math.Nat.{min-eq_left, min-eq_right}
 use lib.ListN.{length, take, drop, length-append, length-take}
 use lib.Seq.{take-append_seam, take-take}
 use Rattle.lists.specs.Lists.{all, part}
@@ -67,17 +70,27 @@ module _ (input : List ℕ) where
 
 -- an input that is the front of a buffer
 module _ (l : List ℕ) (end : ℕ) where
-  -- the text behind its first line, which may be all
-  pub short_rest : end < 19 → part l end (end - end) ≡ drop 19 (take end l)
+  short_rest : end < 19 → part l end (end - end) ≡ drop 19 (take end l)
   unfolding part
   short_rest h =
       let none : end - end ≡ 0 = omega arith in
       let less : end - 19 ≡ 0 = omega arith in
       rw (drop-take 19 end l, none, less)
 
-  pub long_rest : part l 19 (end - 19) ≡ drop 19 (take end l)
+  long_rest : part l 19 (end - 19) ≡ drop 19 (take end l)
   unfolding part
   long_rest = sym (drop-take 19 end l)
+
+  -- the text behind its first line, which may be all
+  pub behind : (from : ℕ) → from ≡ min end 19 → (from ≤ end) × (part l from (end - from) ≡ drop 19 (take end l))
+  behind from e = go (leb 19 end) refl
+    where
+      at : (k : ℕ) → min end 19 ≡ k → k ≤ end → part l k (end - k) ≡ drop 19 (take end l) → (from ≤ end) × (part l from (end - from) ≡ drop 19 (take end l))
+      at k m low rest = (omega (arith, e ∙ m, low), ap (λ (k : ℕ). part l k (end - k)) (e ∙ m) ∙ rest)
+
+      go : (t : Bool) → leb 19 end ≡ t → (from ≤ end) × (part l from (end - from) ≡ drop 19 (take end l))
+      go true t = let h = leb-true 19 end t in at 19 (min-eq_right h) h long_rest
+      go false t = let h = leb-false 19 end t in let low : end ≤ 19 = omega (arith, h) in at end (min-eq_left low) (omega arith) (short_rest (omega (arith, h)))
 
   module _ (none : first_failed (first_tests (take end l)) ≡ 0) where
     front : take 18 (take end l) ≡ take 18 l

@@ -1,16 +1,16 @@
 // The rewriting program: the text of a chip image from standard input, written again to standard output.
 #![tactic(auto)]
 
-ghost use Rattle.std.specs.Prelude.{◌≡◌, true, [], ◌∷◌, ◌++◌, ◌-◌, ◌≤◌, length, take};
+ghost use Rattle.std.specs.Prelude.{◌≡◌, true, [], ◌∷◌, ◌++◌, ◌-◌, ◌≤◌, length, take, IfSome};
 ghost use Rattle.lists.specs.Lists.{all, splice, part};
-ghost use Rattle.model.specs.Tests.{first_failed};
+ghost use Rattle.model.specs.Tests.{first_failed, number};
 ghost use Rattle.model.specs.Sizes.{limits, flash_size, spare_size};
 ghost use Rattle.model.specs.Driving.{is_digit, bytes_of, digits_of, sizes_at};
 ghost use Rattle.model.specs.Mail.{text_fault, text_of, image_of};
 ghost use Rattle.rewrite.specs.Rewrite.{sizes_line, first_tests, no_chip, rewritten_text, rewritten};
 
-use model::Sizes;
-use streams::{Got, Streams};
+use model::{Refusal, Sizes};
+use streams::Streams;
 
 // The digits of the first line, and the line with its line feed.
 const DIGITS: usize = 18;
@@ -64,22 +64,21 @@ fn sizes_of(line: &[u8]) -> Sizes
     }
 }
 
-// The number of the first test that the first line fails, or 0.
-fn first_number(input: &[u8]) -> u8
-    ensures { result ≡ first_failed (first_tests input.now) }
+// The tests of the first line.
+fn check_first(input: &[u8]) -> Result<(), Refusal>
+    ensures { number result ≡ first_failed (first_tests input.now) }
 {
     if !is_sizes_line(input) {
-        return 9;
+        return Err(Refusal::Line);
     }
     let z = sizes_of(&input[..DIGITS]);
     if !geometry::limits(z) {
-        return 1;
+        return Err(Refusal::Limits);
     }
-    if z.c * (z.p * z.s) <= DATA {
-        0
-    } else {
-        model::NO_ROOM
+    if DATA < z.c * (z.p * z.s) {
+        return Err(Refusal::NoRoom);
     }
+    Ok(())
 }
 
 // The first line again, in capitals.
@@ -126,9 +125,8 @@ fn rewrite_text(
     requires text_len { (length text.old ≡ 2738234) × (from ≤ end) × (end ≤ length text.old) × (all is_digit (take 18 text.old) ≡ true) }
     ensures { (result ≤ length text.new) × (take result text.new ≡ rewritten_text z (bytes_of (take 18 text.old)) (part text.old from (end - from))) }
 {
-    let fault = receive::first_fault(z, &text[from..end]);
-    if fault.number != 0 {
-        return text::show(fault.number, fault.before + 2, b"", text);
+    if let Err(fault) = receive::first_fault(z, &text[from..end]) {
+        return text::show(fault.refusal.number(), fault.before + 2, b"", text);
     }
     let data = z.c * (z.p * z.s);
     let tags = z.c * z.p * 16;
@@ -140,31 +138,31 @@ fn rewrite(text: &mut [u8], end: usize, flash: &mut [u8], spare: &mut [u8]) -> u
     requires { (length text.old ≡ 2738234) × (end ≤ length text.old) × (length flash.old ≡ 1048576) × (length spare.old ≡ 262144) }
     ensures { (result ≤ length text.new) × (take result text.new ≡ rewritten (take end text.old)) }
 {
-    let number = first_number(&text[..end]);
-    if number != 0 {
-        return text::show(number, 1, b"", text);
+    if let Err(refusal) = check_first(&text[..end]) {
+        return text::show(refusal.number(), 1, b"", text);
     }
     let z = sizes_of(&text[..DIGITS]);
-    let from = if end < LINE { end } else { LINE };
+    let from = end.min(LINE);
     rewrite_text(z, text, from, end, flash, spare)
 }
 
-// Until the input ends or the buffer is full: what stands beyond cannot change the output. Not ended is an input whose read failed.
-fn read_input(streams: &mut Streams, text: &mut [u8]) -> Got
-    ensures { result.count ≤ length text.new }
+// How many bytes were read until the input ended or the buffer was full: what stands beyond cannot change the output. None where a read failed.
+fn read_input(streams: &mut Streams, text: &mut [u8]) -> Option<usize>
+    ensures { IfSome result (λ count. count ≤ length text.new) }
 {
     let mut count = 0;
+    // no `for`: each step is as long as what was read
     while count < text.len() {
         let got = streams::read_piece(streams, &mut text[count..]);
+        if got.ended {
+            return Some(count);
+        }
         if got.count == 0 {
-            return Got {
-                count,
-                ended: got.ended,
-            };
+            return None;
         }
         count += got.count;
     }
-    Got { count, ended: true }
+    Some(count)
 }
 
 // A refusal goes to standard error too: behind a pipe nobody sees the output.
@@ -182,13 +180,12 @@ fn put_output(streams: &mut Streams, text: &[u8]) {
 fn run(streams: &mut Streams, text: &mut [u8], flash: &mut [u8], spare: &mut [u8])
     requires { (length text.old ≡ 2738234) × (length flash.old ≡ 1048576) × (length spare.old ≡ 262144) }
 {
-    let got = read_input(streams, text);
-    if got.ended {
-        let length = rewrite(text, got.count, flash, spare);
-        put_output(streams, &text[..length]);
-    } else {
+    let Some(end) = read_input(streams, text) else {
         streams::fail(streams, b"rewrite: standard input");
-    }
+        return;
+    };
+    let length = rewrite(text, end, flash, spare);
+    put_output(streams, &text[..length]);
 }
 
 // The arrays as slices of their lengths.

@@ -1,7 +1,7 @@
 -- A bucket page by page: the rules of the book for each, by what the page is.
 use Prim.Native.Nat.{ℕ, zero, suc, ◌+◌, ◌-◌, ◌≤◌, ◌<◌}
-use mathlib.Core.Path.{◌≡◌, refl, sym, ap, ◌∙◌}
-use mathlib.Core.Bool.{Bool, true, false, not, ◌&&◌, ◌||◌, true≢false}
+use mathlib.Core.Path.{◌≡◌, refl, ap}
+use mathlib.Core.Bool.{Bool, true, false, not, ◌&&◌, ◌||◌}
 use mathlib.Core.List.{List}
 use native.Mathlib.Omega.{arith}
 use native.Mathlib.Decide.{dec_lt}
@@ -122,10 +122,3 @@ module _ (z : Sizes) (d : Device) (c : ℕ) where
       (λ h. let t = all-below z.p (stands z d c) h in and-true
       (below_all z.p (is_packed z d c) (λ k q. and_left (is_packed z d c k) _ (t k q)))
       (below_all z.p (page_fits z d c) (λ k q. and_right (is_packed z d c k) _ (t k q))))
-
-  pub bucket_fails : (k : ℕ) → k < z.p → stands z d c k ≡ false → bucket_fits z d c ≡ false
-  bucket_fails k q e = bucket_stands ∙ go (all_below z.p (stands z d c)) refl
-    where
-      go : (t : Bool) → all_below z.p (stands z d c) ≡ t → all_below z.p (stands z d c) ≡ false
-      go true h = absurd (true≢false (sym (all-below z.p (stands z d c) h k q) ∙ e))
-      go false h = h

@@ -1,2 +1,3 @@
+pub mod Epochs
 pub mod Pages
 pub mod Slots

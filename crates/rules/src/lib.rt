@@ -5,18 +5,19 @@
 // A bucket with a spoiled page does not pass so: it is gone through page by page, by the rules as they are written.
 #![tactic(auto)]
 
-ghost use Rattle.std.specs.Prelude.{◌≡◌, true, ◌&&◌, ◌||◌, List, map, ℕ, ◌+◌, ◌-◌, ◌*◌, ◌%◌, ◌≤◌, ◌<◌, length, eqb};
-ghost use Rattle.lists.specs.Lists.{all_below, times, distinct, keep, below};
+ghost use Rattle.std.specs.Prelude.{◌≡◌, true, ◌&&◌, ◌||◌, List, ℕ, ◌+◌, ◌-◌, ◌*◌, ◌%◌, ◌≤◌, ◌<◌, length, eqb};
+ghost use Rattle.lists.specs.Lists.{all_below, times, distinct, part};
 ghost use Rattle.model.specs.Sizes.{body, pages_for};
-ghost use Rattle.model.specs.Spare.{write_kind, kind, zeros};
+ghost use Rattle.model.specs.Spare.{blank, write_kind, kind, zeros};
 ghost use Rattle.model.specs.Stores.{tag_of};
-ghost use Rattle.model.specs.Image.{continues, shares, fields_fit, begins_log, continues_log, bucket_fits, used, epoch_of, body_fits};
+ghost use Rattle.model.specs.Image.{continues, shares, fields_fit, begins_log, continues_log, bucket_fits, head_tag, used, epoch_of, body_fits};
 ghost use Rattle.model.specs.Ledger.{well_formed};
 ghost use Rattle.model.proofs.Limits.{Limits};
 ghost use Rattle.spare.specs.Fields.{fields};
 ghost use Rattle.image.specs.Chip.{Chip, HeadAt, spare_only};
 ghost use Rattle.rules.specs.Pages.{log_fits, kind_fits, same_bucket, low_first, goes_on, log_goes, fits_at, Fitting, is_behind, ruled, stands, fits_from, NoKinds, Span};
 ghost use Rattle.rules.specs.Slots.{Tells};
+ghost use Rattle.rules.specs.Epochs.{some_if, PageEpoch, Differ};
 
 use model::Sizes;
 use spare::{Fields, Seen};
@@ -213,15 +214,13 @@ fn run_end(z: Sizes, c: usize, k: usize, spare: &[u8]) -> usize
     let end = log_end(z, k, spare[start - 15], spare[start - 14]);
     let second = half_at(spare, start - 8);
     let mut first = half_at(spare, start - 16);
-    let mut e = k;
-    while e < end {
+    for e in k..end {
         first += 256;
         if !are_halves(spare, (c * z.p + e) * 16, first, second) {
             return e;
         }
-        e += 1;
     }
-    e
+    end
 }
 
 // How many pages fit, from the first on, which does.
@@ -231,6 +230,7 @@ fn fitting_from(z: Sizes, c: usize, spare: &[u8]) -> usize
     requires fitting { Fitting z (spare_only spare.now) c 1 }
     ensures { Fitting z (spare_only spare.now) c result }
 {
+    // (d) it goes on by runs, not by one
     let mut k = run_end(z, c, 1, spare);
     while k < z.p {
         if !later_fits_at(z, c, k, spare) {
@@ -254,7 +254,7 @@ fn fitting(z: Sizes, c: usize, spare: &[u8]) -> usize
 }
 
 // Whether a page shares kind, epoch and back-end bucket with the page that speaks for its bucket.
-fn shares(head: Fields, f: Fields) -> bool
+pub fn shares(head: Fields, f: Fields) -> bool
     ensures { (first tag : List ℕ) → fields first ≡ head → fields tag ≡ f → result ≡ shares first tag }
 {
     (f.kind == head.kind) & (f.epoch == head.epoch) & (f.back == head.back)
@@ -347,14 +347,7 @@ fn pages_fit(z: Sizes, c: usize, spare: &[u8]) -> bool
     ensures { result ≡ bucket_fits z (spare_only spare.now) c }
 {
     let head = image::head(z, c, spare);
-    let mut k = 0;
-    while k < z.p {
-        if !page_fits(z, c, k, head, spare) {
-            return false;
-        }
-        k += 1;
-    }
-    true
+    (0..z.p).all(|k| page_fits(z, c, k, head, spare))
 }
 
 // Most buckets are pages that fit, each behind the one before it, and then blank ones.
@@ -386,14 +379,12 @@ fn next_kind(z: Sizes, c: usize, spare: &[u8]) -> usize
     ensures { NoKinds z (spare_only spare.now) c result }
 {
     let end = geometry::body(z);
-    let mut e = c;
-    while e < end {
+    for e in c..end {
         if spare::kind_at(spare, e * z.p) != spare::NO_KIND {
             return e;
         }
-        e += 1;
     }
-    e
+    end
 }
 
 // Where the span of buckets that starts with c ends: c alone if it has a kind, else those up to the next that has one.
@@ -427,6 +418,7 @@ fn buckets_fit(z: Sizes, spare: &[u8]) -> bool
     ensures { result ≡ all_below (body z) (bucket_fits z (spare_only spare.now)) }
 {
     let end = geometry::body(z);
+    // (d) it goes on by spans, not by one
     let mut bucket = 0;
     while bucket < end {
         let e = span_end(z, bucket, spare);
@@ -444,11 +436,8 @@ fn count_of(x: u32, items: &[u32]) -> u32
     ensures { result ≡ times x items.now }
 {
     let mut n = 0u32;
-    let mut i = 0;
-    while i < items.len() {
-        let y = items[i];
-        i += 1;
-        if x == y {
+    for y in items {
+        if x == *y {
             n += 1;
         }
     }
@@ -465,11 +454,8 @@ fn slot_of(x: u32) -> usize
 fn fill_slots(items: &[u32], slots: &mut [u8; 1024])
     requires { length items.now ≤ 256 }
 {
-    let mut i = 0;
-    while i < items.len() {
-        let slot = slot_of(items[i]);
-        slots[slot] = i as u8;
-        i += 1;
+    for (i, x) in items.iter().enumerate() {
+        slots[slot_of(*x)] = i as u8;
     }
 }
 
@@ -493,57 +479,53 @@ pub fn all_differ(items: &[u32]) -> bool
 {
     let mut slots = [0u8; 1024];
     fill_slots(items, &mut slots);
-    let mut i = 0;
-    while i < items.len() {
+    for i in 0..items.len() {
         if !stands_alone(items, i, &slots) {
             return false;
         }
-        i += 1;
     }
     true
 }
 
-// No two buckets share an epoch: those of the used buckets are gathered by their heads, and compared.
-fn head_epochs_differ(z: Sizes, spare: &[u8]) -> bool
-    requires chip { Chip z spare.now }
-    requires spare_value { all_below (body z) (bucket_fits z (spare_only spare.now)) ≡ true }
-    ensures { result ≡ distinct (map (epoch_of z (spare_only spare.now)) (keep (used z (spare_only spare.now)) (below (body z)))) }
+// The epoch that a page says. Where no kind means a blank page, its kind tells whether it is programmed.
+pub fn page_epoch(page: usize, spare: &[u8]) -> Option<u32>
+    requires { page * 16 + 16 ≤ length spare.now }
+    ensures { PageEpoch (part spare.now (page * 16) 16) result }
 {
-    let end = geometry::body(z);
-    let mut epochs = [0u32; 256];
-    let mut n = 0;
-    let mut c = 0;
-    while c < end {
-        if image::used(z, c, spare) {
-            epochs[n] = image::used_epoch(z, c, spare);
-            n += 1;
-        }
-        c += 1;
+    let kind = spare::kind_at(spare, page);
+    if (kind == spare::NO_KIND) | (kind == spare::SPOILED_KIND) {
+        return None;
     }
-    all_differ(&epochs[..n])
+    Some(spare::epoch_at(spare, page))
 }
 
-// The same by first pages alone, which are the heads while none is spoiled. To ask each bucket for its head takes longer.
-fn epochs_differ(z: Sizes, spare: &[u8]) -> bool
+// The epoch of a bucket that is used. Its head is its first page unless that is spoiled: to ask each bucket for its head takes longer.
+pub fn head_epoch(z: Sizes, c: usize, spare: &[u8]) -> Option<u32>
     requires chip { Chip z spare.now }
-    requires spare_value { all_below (body z) (bucket_fits z (spare_only spare.now)) ≡ true }
-    ensures { result ≡ distinct (map (epoch_of z (spare_only spare.now)) (keep (used z (spare_only spare.now)) (below (body z)))) }
+    requires c_lt_c { c < z.c }
+    requires no_kind { blank (head_tag z (spare_only spare.now) c) ≡ eqb (kind (head_tag z (spare_only spare.now) c)) 255 }
+    ensures { result ≡ some_if (used z (spare_only spare.now) c) (epoch_of z (spare_only spare.now) c) }
 {
-    let end = geometry::body(z);
+    let first = c * z.p;
+    if spare::kind_at(spare, first) != spare::SPOILED_KIND {
+        return page_epoch(first, spare);
+    }
+    page_epoch(first + image::head(z, c, spare), spare)
+}
+
+// No two buckets share an epoch: those that have one are gathered, and compared.
+pub fn epochs_differ<F: Fn(usize) -> Option<u32>>(end: usize, epoch: F) -> bool
+    requires few { end ≤ 256 }
+    requires callable { (c : ℕ) → c < end → F.pre epoch c }
+    ensures { Differ (F.post epoch) end result }
+{
     let mut epochs = [0u32; 256];
     let mut n = 0;
-    let mut c = 0;
-    while c < end {
-        let page = c * z.p;
-        let kind = spare::kind_at(spare, page);
-        if kind != spare::NO_KIND {
-            if kind == spare::SPOILED_KIND {
-                return head_epochs_differ(z, spare);
-            }
-            epochs[n] = spare::epoch_at(spare, page);
+    for c in 0..end {
+        if let Some(own) = epoch(c) {
+            epochs[n] = own;
             n += 1;
         }
-        c += 1;
     }
     all_differ(&epochs[..n])
 }
@@ -556,7 +538,7 @@ pub fn body_fits(z: Sizes, spare: &[u8]) -> bool
     if !buckets_fit(z, spare) {
         return false;
     }
-    epochs_differ(z, spare)
+    epochs_differ(geometry::body(z), |c| head_epoch(z, c, spare))
 }
 
 pub fn well_formed(z: Sizes, spare: &[u8]) -> bool

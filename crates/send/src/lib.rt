@@ -3,7 +3,7 @@
 
 ghost use Rattle.std.specs.Prelude.{◌≡◌, not, [], ◌∷◌, ◌++◌, ◌+◌, ◌*◌, ◌/◌, ◌%◌, ◌<◌, ◌≤◌, length};
 ghost use Rattle.lists.specs.Lists.{count_below, splice, part};
-ghost use Rattle.model.specs.Tests.{first_failed};
+ghost use Rattle.model.specs.Tests.{first_failed, number};
 ghost use Rattle.model.specs.Sizes.{flash_size, spare_size};
 ghost use Rattle.model.specs.Spare.{blank};
 ghost use Rattle.model.specs.Driving.{digits_of};
@@ -12,7 +12,7 @@ ghost use Rattle.model.proofs.Limits.{Limits};
 ghost use Rattle.geometry.specs.Geometry.{device};
 ghost use Rattle.send.specs.Text.{text_written, line_length};
 
-use model::{Answer, Sizes};
+use model::{Answer, Refusal, Sizes};
 
 // The bytes of a frame before the page's data: bucket, page, spare bytes.
 const HEAD: usize = 19;
@@ -47,12 +47,10 @@ fn listed_pages(z: Sizes, spare: &[u8]) -> usize
 {
     let pages = z.c * z.p;
     let mut count = 0;
-    let mut page = 0;
-    while page < pages {
+    for page in 0..pages {
         if is_listed(spare, page) {
             count += 1;
         }
-        page += 1;
     }
     count
 }
@@ -62,12 +60,8 @@ fn place_bytes(z: Sizes, page: usize) -> [u8; 3]
     requires { Limits z × (page < z.c * z.p) }
     ensures { result ≡ page / z.p / 256 ∷ page / z.p % 256 ∷ page % z.p ∷ [] }
 {
-    let bucket = page / z.p;
-    [
-        (bucket / 256) as u8,
-        (bucket % 256) as u8,
-        (page % z.p) as u8,
-    ]
+    let [high, low] = ((page / z.p) as u16).to_be_bytes();
+    [high, low, (page % z.p) as u8]
 }
 
 // A frame's digits and the line feed, from `at` on.
@@ -81,7 +75,7 @@ fn put_line(text: &mut [u8], at: usize, place: &[u8], tag: &[u8], bytes: &[u8])
     text::put_bytes(text, at, place);
     text::put_bytes(text, tag_at, tag);
     text::put_bytes(text, bytes_at, bytes);
-    text[end] = 10;
+    text[end] = b'\n';
 }
 
 // The page's line, from `at` on.
@@ -113,40 +107,32 @@ fn put_pages(z: Sizes, flash: &[u8], spare: &[u8], text: &mut [u8]) -> usize
     let pages = z.c * z.p;
     let line = line_length(z);
     let mut at = 0;
-    let mut page = 0;
-    while page < pages {
+    for page in 0..pages {
         if is_listed(spare, page) {
             put_page(z, page, flash, spare, text, at);
             at += line;
         }
-        page += 1;
     }
     at
 }
 
-// The number of the first test that fails, or 0.
-fn refusal(z: Sizes, flash: &[u8], spare: &[u8], room: usize) -> u8
-    ensures { result ≡ first_failed (write_tests z (device flash.now spare.now []) room) }
+fn check_room(z: Sizes, flash: &[u8], spare: &[u8], room: usize) -> Result<(), Refusal>
+    ensures { number result ≡ first_failed (write_tests z (device flash.now spare.now []) room) }
 {
-    let number = geometry::chip_refusal(z, flash, spare);
-    if number != 0 {
-        return number;
+    geometry::check_chip(z, flash, spare)?;
+    if room < listed_pages(z, spare) * line_length(z) {
+        return Err(Refusal::Lengths);
     }
-    if listed_pages(z, spare) * line_length(z) <= room {
-        0
-    } else {
-        2
-    }
+    Ok(())
 }
 
 // The text stands at the buffer's start; the bytes past it stay.
 pub fn write_text(z: Sizes, flash: &[u8], spare: &[u8], text: &mut [u8]) -> Written
     ensures { text_written result text.new ≡ write_text z (device flash.now spare.now []) text.old }
 {
-    let number = refusal(z, flash, spare, text.len());
-    if number != 0 {
+    if let Err(refusal) = check_room(z, flash, spare, text.len()) {
         return Written {
-            answer: Answer::Refused(number),
+            answer: Answer::Refused(refusal.number()),
             length: 0,
         };
     }

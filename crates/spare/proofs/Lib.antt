@@ -1,3 +1,2 @@
 pub mod Looked
 pub mod Runs
-pub mod Entries

@@ -1,7 +1,9 @@
 // The sixteen spare bytes of a page: written from fields, and read.
 #![tactic(auto)]
 
-ghost use Rattle.std.specs.Prelude.{◌≡◌, ◌&&◌, ◌+◌, ◌*◌, ◌≤◌, eqb, length};
+ghost use Rattle.std.specs.Prelude.{◌≡◌, ◌&&◌, ◌+◌, ◌*◌, ◌≤◌, eqb, not, length};
+ghost use Rattle.std.specs.List.{list_all};
+ghost use Rattle.std.specs.Str.{bytes_eq};
 ghost use Rattle.lists.specs.Lists.{all_below, same, part, ff};
 ghost use Rattle.model.specs.Spare.{two, four, blank, programmed, kind, ordinal, pages, epoch, back, zeros, entry_tag};
 ghost use Rattle.spare.specs.Fields.{tag, fields, seen, blank_from};
@@ -36,36 +38,13 @@ pub enum Seen {
 pub fn encode(f: Fields) -> [u8; 16]
     ensures { result ≡ tag f }
 {
+    let [e0, e1, e2, e3] = f.epoch.to_be_bytes();
+    let [b0, b1] = f.back.to_be_bytes();
+    let [o0, o1] = f.offset.to_be_bytes();
+    let [l0, l1] = f.last.to_be_bytes();
     [
-        f.kind,
-        f.ordinal,
-        f.pages,
-        0,
-        (f.epoch / 16777216 % 256) as u8,
-        (f.epoch / 65536 % 256) as u8,
-        (f.epoch / 256 % 256) as u8,
-        (f.epoch % 256) as u8,
-        (f.back / 256 % 256) as u8,
-        (f.back % 256) as u8,
-        0,
-        0,
-        (f.offset / 256 % 256) as u8,
-        (f.offset % 256) as u8,
-        (f.last / 256 % 256) as u8,
-        (f.last % 256) as u8,
+        f.kind, f.ordinal, f.pages, 0, e0, e1, e2, e3, b0, b1, 0, 0, o0, o1, l0, l1,
     ]
-}
-
-fn two_bytes(high: u8, low: u8) -> u16
-    ensures { result ≡ high * 256 + low }
-{
-    (high as u16) * 256 + (low as u16)
-}
-
-fn four_bytes(high: u16, third: u8, fourth: u8) -> u32
-    ensures { result ≡ (high * 256 + third) * 256 + fourth }
-{
-    ((high as u32) * 256 + (third as u32)) * 256 + (fourth as u32)
 }
 
 // The two bytes from index i on, as a number.
@@ -73,7 +52,7 @@ fn two_at(bytes: &[u8], i: usize) -> u16
     requires { i + 2 ≤ length bytes.now }
     ensures { result ≡ two bytes.now i }
 {
-    two_bytes(bytes[i], bytes[i + 1])
+    u16::from_be_bytes([bytes[i], bytes[i + 1]])
 }
 
 // The four bytes from index i on, as a number.
@@ -81,8 +60,7 @@ fn four_at(bytes: &[u8], i: usize) -> u32
     requires { i + 4 ≤ length bytes.now }
     ensures { result ≡ four bytes.now i }
 {
-    let high = two_at(bytes, i);
-    four_bytes(high, bytes[i + 2], bytes[i + 3])
+    u32::from_be_bytes([bytes[i], bytes[i + 1], bytes[i + 2], bytes[i + 3]])
 }
 
 // The fields that sixteen spare bytes say.
@@ -98,68 +76,42 @@ fn decode(bytes: &[u8]) -> Fields
         kind: bytes[0],
         ordinal: bytes[1],
         pages: bytes[2],
-        epoch: epoch,
-        back: back,
-        offset: offset,
-        last: last,
+        epoch,
+        back,
+        offset,
+        last,
     }
 }
 
-// Whether two areas hold the same bytes. With no way out at the first that differs, the loop takes many at a time.
+// Whether two areas hold the same bytes.
 pub fn equal(a: &[u8], b: &[u8]) -> bool
     ensures { result ≡ same a.now b.now }
 {
-    if a.len() != b.len() {
-        return false;
-    }
-    let mut alike = true;
-    let mut i = 0;
-    while i < a.len() {
-        alike = alike & (a[i] == b[i]);
-        i += 1;
-    }
-    alike
+    a == b
 }
 
 // Whether these are the spare bytes of an erased page.
 pub fn is_blank(bytes: &[u8]) -> bool
     ensures { result ≡ blank bytes.now }
 {
-    equal(
-        bytes,
-        b"\xff\xff\xff\xff\xff\xff\xff\xff\xff\xff\xff\xff\xff\xff\xff\xff",
-    )
+    let erased = b"\xff\xff\xff\xff\xff\xff\xff\xff\xff\xff\xff\xff\xff\xff\xff\xff";
+    equal(bytes, erased)
 }
 
-// The same of eight pages or more, one behind the other, compared with the fixed string eight at a time: few wide compares.
-// The last eight may be compared in part once more, so that no page is left to be compared by itself.
-fn eights_erased(bytes: &[u8]) -> bool
-    requires { 128 ≤ length bytes.now }
-    ensures { result ≡ same bytes.now (ff (length bytes.now)) }
+// The same of pages one behind the other, compared with the fixed string eight at a time: few wide compares.
+fn eights_erased(eights: &[[u8; 128]]) -> bool
+    ensures { result ≡ list_all (λ eight. bytes_eq eight (ff 128)) eights.now }
 {
-    let erased = [255u8; 128];
-    let last = bytes.len() - 128;
-    let mut alike = true;
-    let mut i = 0;
-    while i < last {
-        let end = i + 128;
-        let eight = equal(&bytes[i..end], &erased);
-        alike = alike & eight;
-        i = end;
-    }
-    alike & equal(&bytes[last..], &erased)
+    eights.iter().all(|eight| *eight == [255; 128])
 }
 
-// The same of any number of pages.
+// The same of any number of pages: eight at a time, and the rest.
 fn all_erased(bytes: &[u8]) -> bool
     ensures { result ≡ same bytes.now (ff (length bytes.now)) }
 {
-    let size = bytes.len();
-    if 128 <= size {
-        return eights_erased(bytes);
-    }
     let erased = [255u8; 128];
-    equal(bytes, &erased[..size])
+    let (eights, rest) = bytes.as_chunks::<128>();
+    eights_erased(eights) & equal(rest, &erased[..rest.len()])
 }
 
 // Whether n pages of the spare area are all blank, from this page on.
@@ -181,13 +133,23 @@ fn seen_in(bytes: &[u8]) -> Seen
     ensures { result ≡ seen bytes.now }
 {
     if is_blank(bytes) {
-        return Seen::Blank;
+        Seen::Blank
+    } else if bytes[0] == SPOILED_KIND {
+        Seen::Spoiled
+    } else {
+        Seen::Programmed(decode(bytes))
     }
-    if bytes[0] == SPOILED_KIND {
-        return Seen::Spoiled;
-    }
-    let found = decode(bytes);
-    Seen::Programmed(found)
+}
+
+// The sixteen spare bytes of a page, counted over the whole chip.
+fn tag_at(spare: &[u8], page: usize) -> &[u8]
+    requires { page * 16 + 16 ≤ length spare.now }
+    ensures size { length result.now ≡ 16 }
+    ensures bytes { result.now ≡ part spare.now (page * 16) 16 }
+{
+    let start = page * 16;
+    let end = start + 16;
+    &spare[start..end]
 }
 
 // The fields that a page's bytes say, erased or not.
@@ -195,19 +157,15 @@ pub fn fields_at(spare: &[u8], page: usize) -> Fields
     requires { page * 16 + 16 ≤ length spare.now }
     ensures { result ≡ fields (part spare.now (page * 16) 16) }
 {
-    let start = page * 16;
-    let end = start + 16;
-    decode(&spare[start..end])
+    decode(tag_at(spare, page))
 }
 
-// What a page of the spare area is, counted over the whole chip.
+// What a page of the spare area is.
 pub fn seen_at(spare: &[u8], page: usize) -> Seen
     requires { page * 16 + 16 ≤ length spare.now }
     ensures { result ≡ seen (part spare.now (page * 16) 16) }
 {
-    let start = page * 16;
-    let end = start + 16;
-    seen_in(&spare[start..end])
+    seen_in(tag_at(spare, page))
 }
 
 // Whether a page is blank.
@@ -215,9 +173,7 @@ pub fn blank_at(spare: &[u8], page: usize) -> bool
     requires { page * 16 + 16 ≤ length spare.now }
     ensures { result ≡ blank (part spare.now (page * 16) 16) }
 {
-    let start = page * 16;
-    let end = start + 16;
-    is_blank(&spare[start..end])
+    is_blank(tag_at(spare, page))
 }
 
 // Whether sixteen spare bytes are those of an entry of the erase ledger, for some bucket and some epoch: all other bytes are fixed.
@@ -225,12 +181,16 @@ fn entry_bytes(bytes: &[u8]) -> bool
     requires { length bytes.now ≡ 16 }
     ensures { result ≡ same bytes.now (entry_tag (epoch bytes.now) (back bytes.now)) }
 {
-    let log = (bytes[0] == model::LEDGER_KIND)
-        & (bytes[1] == 0)
-        & (bytes[2] == 1)
-        & (bytes[3] == 0);
-    let range = (bytes[12] == 0) & (bytes[13] == 0) & (bytes[14] == 0) & (bytes[15] == 0);
-    log & (bytes[10] == 0) & (bytes[11] == 0) & range
+    let entry = Fields {
+        kind: model::LEDGER_KIND,
+        ordinal: 0,
+        pages: 1,
+        epoch: four_at(bytes, 4),
+        back: two_at(bytes, 8),
+        offset: 0,
+        last: 0,
+    };
+    equal(bytes, &encode(entry))
 }
 
 // Whether a page is such an entry.
@@ -238,9 +198,7 @@ pub fn entry_at(spare: &[u8], page: usize) -> bool
     requires { page * 16 + 16 ≤ length spare.now }
     ensures { result ≡ (same (part spare.now (page * 16) 16) (entry_tag (epoch (part spare.now (page * 16) 16)) (back (part spare.now (page * 16) 16)))) }
 {
-    let start = page * 16;
-    let end = start + 16;
-    entry_bytes(&spare[start..end])
+    entry_bytes(tag_at(spare, page))
 }
 
 // Whether the zero bytes of sixteen spare bytes are zero.
@@ -256,9 +214,7 @@ pub fn zeroed(spare: &[u8], page: usize) -> bool
     requires { page * 16 + 16 ≤ length spare.now }
     ensures { result ≡ zeros (part spare.now (page * 16) 16) }
 {
-    let start = page * 16;
-    let end = start + 16;
-    zero_bytes(&spare[start..end])
+    zero_bytes(tag_at(spare, page))
 }
 
 // The back-end bucket of a page; the erased bytes of a blank one read as 65,535, which is below no B.
@@ -266,9 +222,7 @@ pub fn back_at(spare: &[u8], page: usize) -> u16
     requires { page * 16 + 16 ≤ length spare.now }
     ensures { result ≡ back (part spare.now (page * 16) 16) }
 {
-    let start = page * 16;
-    let end = start + 16;
-    two_at(&spare[start..end], 8)
+    two_at(tag_at(spare, page), 8)
 }
 
 // The kind of a page, or `NO_KIND`.
@@ -276,7 +230,14 @@ pub fn kind_at(spare: &[u8], page: usize) -> u8
     requires { page * 16 + 16 ≤ length spare.now }
     ensures { result ≡ kind (part spare.now (page * 16) 16) }
 {
-    spare[page * 16]
+    tag_at(spare, page)[0]
+}
+
+// Whether the kind is that of a programmed page, in a bucket where a page is blank if it has no kind.
+pub fn programmed_kind(kind: u8) -> bool
+    ensures { result ≡ (not (eqb kind 255) && not (eqb kind 0)) }
+{
+    (kind != NO_KIND) & (kind != SPOILED_KIND)
 }
 
 // Whether the page is the last of its log. A spoiled one is of no log, and the erased bytes of a blank one say that it is not the last.
@@ -284,9 +245,8 @@ pub fn ends_at(spare: &[u8], page: usize) -> bool
     requires { page * 16 + 16 ≤ length spare.now }
     ensures { result ≡ (programmed (part spare.now (page * 16) 16) && eqb (ordinal (part spare.now (page * 16) 16) + 1) (pages (part spare.now (page * 16) 16))) }
 {
-    let start = page * 16;
-    let ordinal = spare[start + 1] as u16;
-    (spare[start] != SPOILED_KIND) & (ordinal + 1 == spare[start + 2] as u16)
+    let tag = tag_at(spare, page);
+    (tag[0] != SPOILED_KIND) & (u16::from(tag[1]) + 1 == u16::from(tag[2]))
 }
 
 // The epoch of a page; the erased bytes of a blank one read as 4,294,967,295.
@@ -294,7 +254,5 @@ pub fn epoch_at(spare: &[u8], page: usize) -> u32
     requires { page * 16 + 16 ≤ length spare.now }
     ensures { result ≡ epoch (part spare.now (page * 16) 16) }
 {
-    let start = page * 16;
-    let end = start + 16;
-    four_at(&spare[start..end], 4)
+    four_at(tag_at(spare, page), 4)
 }

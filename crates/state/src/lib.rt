@@ -252,22 +252,18 @@ fn next_count(accepted: u8) -> u8
 fn with_cache(gc: Fifo, queue: Queue, b: u16) -> Fifo
     ensures { list_of result ≡ joined 256 (list_of gc) (caches_of b (entries_of queue)) }
 {
-    let found = queue.find(b);
-    if !found.held {
-        return gc;
+    match queue.find(b) {
+        Some(own) => gc.push(own.cache),
+        None => gc,
     }
-    gc.push(found.cache)
 }
 
 // The queue with b's entry, if there is one, moved to the back.
 fn most_recent(queue: Queue, b: u16) -> Queue
     ensures { entries_of result ≡ without b (entries_of queue) ++ map (λ c. entry b c 0) (caches_of b (entries_of queue)) }
 {
-    let found = queue.find(b);
-    if !found.held {
-        return queue;
+    match queue.find(b) {
+        Some(own) => queue.without(b).push(queue::entry(b, own.cache, 0)),
+        None => queue,
     }
-    let copy = queue::entry(b, found.cache, 0);
-    let others = queue.without(b);
-    others.push(copy)
 }

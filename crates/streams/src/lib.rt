@@ -53,7 +53,7 @@ fn again(answer: &io::Result<usize>, tries: u64) -> bool
     }
 }
 
-// A proved loop has to end, and nothing says that the other side will be ready: the loop counts its tries down.
+// A proved loop has to end, and nothing says that the other side will be ready: the loop counts its tries down. A `for` would need an answer behind its end.
 pub fn read_piece(streams: &mut Streams, piece: &mut [u8]) -> Got
     ensures count { (result.count ≤ length piece.new) × (result.ended ≡ true → result.count ≡ 0) }
     ensures reason { result.count ≡ 0 → result.ended ≡ false → IsSome streams.new.failure }
@@ -103,6 +103,7 @@ pub fn write_out(streams: &mut Streams, text: &[u8]) -> usize
     ensures { result ≤ length text.now }
 {
     let mut written = 0;
+    // no `for`: each step is as long as what was written
     while written < text.len() {
         let put = write_some(streams, &text[written..]);
         if put == 0 {

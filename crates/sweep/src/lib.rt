@@ -33,12 +33,9 @@ fn erase_marked(
 {
     let end = geometry::body(z);
     let mut run = meter;
-    let mut bucket = 0;
-    while bucket < end {
-        let here = bucket;
-        bucket += 1;
-        if marks[here] {
-            run = meter::erase_bucket(run, z, here, flash, spare, disk);
+    for bucket in 0..end {
+        if marks[bucket] {
+            run = meter::erase_bucket(run, z, bucket, flash, spare, disk);
         }
     }
     run

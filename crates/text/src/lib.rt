@@ -9,7 +9,7 @@ fn capital(v: u8) -> u8
     requires { v < 16 }
     ensures { result ≡ digit v }
 {
-    if v < 10 { v + 48 } else { v + 55 }
+    if v < 10 { b'0' + v } else { b'A' + (v - 10) }
 }
 
 fn put_byte(out: &mut [u8], at: usize, byte: u8)
@@ -24,10 +24,8 @@ pub fn put_bytes(out: &mut [u8], at: usize, bytes: &[u8])
     requires { at + length bytes.now * 2 ≤ length out.old }
     ensures { out.new ≡ splice out.old at (digits_of bytes.now) }
 {
-    let mut i = 0;
-    while i < bytes.len() {
-        put_byte(out, at + i * 2, bytes[i]);
-        i += 1;
+    for (i, byte) in bytes.iter().enumerate() {
+        put_byte(out, at + i * 2, *byte);
     }
 }
 
@@ -37,10 +35,11 @@ pub fn show(answer: u8, stores: usize, bytes: &[u8], out: &mut [u8]) -> usize
     requires bytes_in_bounds { 7 + length bytes.now * 2 ≤ length out.old }
     ensures { (result ≡ length (shown answer stores bytes.now)) × (out.new ≡ shown answer stores bytes.now ++ drop result out.old) }
 {
-    let head = [answer, (stores / 256) as u8, (stores % 256) as u8];
+    let [high, low] = (stores as u16).to_be_bytes();
+    let head = [answer, high, low];
     put_bytes(out, 0, &head);
     put_bytes(out, 6, bytes);
     let end = 6 + bytes.len() * 2;
-    out[end] = 10;
+    out[end] = b'\n';
     end + 1
 }

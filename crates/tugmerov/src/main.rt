@@ -51,6 +51,7 @@ fn walk_piece(
     let mut walk = w;
     let mut written = 0;
     walk.passed = 0;
+    // no `for`: each step is as long as what was walked
     while walk.passed < piece.len() && walk.printed == 0 {
         walk = input::advance(walk, piece, line, buffer, flash, spare, disk, out);
         let printed = walk.printed;
@@ -106,7 +107,7 @@ fn turn(
     )
 }
 
-// Nothing says that the input ends, so this loop counts its turns down too.
+// Nothing says that the input ends, so this loop counts its turns.
 fn walk_pieces(
     streams: &mut Streams,
     w: Walk,
@@ -124,21 +125,20 @@ fn walk_pieces(
     ensures ended { result.ended ≡ true → result.walk.printed ≡ 0 → Ended (ahead w line.old flash.old spare.old disk.old out.old) (ahead result.walk line.new flash.new spare.new disk.new out.new) }
 {
     let mut walk = w;
-    let mut ended = false;
-    let mut more = true;
-    let mut turns = u64::MAX;
-    while more && turns > 0 {
+    for _ in 0..u64::MAX {
         let got = streams::read_piece(streams, piece);
         let told = turn(
             streams, walk, got, piece, line, buffer, flash, spare, disk, out,
         );
-        let next = told.walk;
-        walk = next;
-        ended = got.ended;
-        more = (got.count > 0) & (walk.printed == 0);
-        turns -= 1;
+        walk = told.walk;
+        if got.count == 0 || walk.printed > 0 {
+            return Came {
+                walk,
+                ended: got.ended,
+            };
+        }
     }
-    Came { walk, ended }
+    Came { walk, ended: false }
 }
 
 fn walk_input(

@@ -20,7 +20,7 @@ use Rattle.geometry.proofs.Places.{nth_inside}
 use Rattle.meter.specs.declared.Meter.{Meter}
 use Rattle.meter.specs.Run.{running, allowed, spent, run_all}
 use Rattle.meter.proofs.Runs.{row_run}
-use Rattle.units.specs.declared.Part.{Part}
+use Rattle.std.specs.declared.ops.Range.{Range}
 
 -- the bytes of a back-end bucket lie on the disk, and those of the units that are made lie among them
 pub bytes_inside : (z : Sizes) (b : ℕ) (disk : List ℕ) → b < z.b → length disk ≡ disk_size z → b * bucket_size z + bucket_size z ≤ length disk
@@ -60,8 +60,8 @@ module _ (z : Sizes) (b : ℕ) (bytes flash spare disk : List ℕ) (m : Meter) (
       ∙ row_run z (unit_store z b bytes) (λ k. device flash spare (written (k * z.s))) m z.p leads
 
 -- code lends the part of the disk for the units that are made
-module _ (z : Sizes) (b : ℕ) (disk : List ℕ) (m : Meter) (inside : b * bucket_size z + bucket_size z ≤ length disk) {lent : Part}
-    (placed : lent ≡ record { at = b * bucket_size z; end = b * bucket_size z + allowed z.p m * z.s }) where
+module _ (z : Sizes) (b : ℕ) (disk : List ℕ) (m : Meter) (inside : b * bucket_size z + bucket_size z ≤ length disk) {lent : Range ℕ}
+    (placed : lent ≡ record { start = b * bucket_size z; end = b * bucket_size z + allowed z.p m * z.s }) where
   abbrev at : ℕ
   at = b * bucket_size z
 
@@ -71,33 +71,33 @@ module _ (z : Sizes) (b : ℕ) (disk : List ℕ) (m : Meter) (inside : b * bucke
   many : n ≤ bucket_size z
   many = made_inside z m refl
 
-  pub lent_order : lent.at ≤ lent.end
+  pub lent_order : lent.start ≤ lent.end
   lent_order = rw placed (omega arith)
 
   pub lent_end : lent.end ≤ length disk
   lent_end = rw placed (omega (arith, many))
 
-  pub lent_most : length (mid_of lent.at (lent.end - lent.at) disk) ≤ bucket_size z
+  pub lent_most : length (mid_of lent.start (lent.end - lent.start) disk) ≤ bucket_size z
   lent_most = rw placed (omega (arith, many, lent_length disk at n (omega (arith, many))))
 
   -- it shows what the disk has of the bucket
-  pub lent_shows : mid_of lent.at (lent.end - lent.at) disk ≡ part (part disk at (bucket_size z)) 0 (length (mid_of lent.at (lent.end - lent.at) disk))
+  pub lent_shows : mid_of lent.start (lent.end - lent.start) disk ≡ part (part disk at (bucket_size z)) 0 (length (mid_of lent.start (lent.end - lent.start) disk))
   lent_shows =
       rw (placed, lent_length disk at n (omega (arith, many)), lent_part disk at n)
       (sym (part-part disk at (bucket_size z) 0 n (omega (arith, many)) inside ∙ ap (λ (i : ℕ). part disk i n) (add-zero at)))
 
   -- and comes back with their bytes
-  module _ (bytes : List ℕ) (size : length bytes ≡ bucket_size z) {back : List ℕ} (laid : back ≡ part bytes 0 (length (mid_of lent.at (lent.end - lent.at) disk))) where
+  module _ (bytes : List ℕ) (size : length bytes ≡ bucket_size z) {back : List ℕ} (laid : back ≡ part bytes 0 (length (mid_of lent.start (lent.end - lent.start) disk))) where
     made : length (take n bytes) ≡ n
     made = length-take-le n bytes (omega (arith, many))
 
-    put : put_mid lent.at (lent.end - lent.at) disk back ≡ splice disk at (take n bytes)
+    put : put_mid lent.start (lent.end - lent.start) disk back ≡ splice disk at (take n bytes)
     unfolding part
     put = rw placed (put_back disk at n (rw (placed, lent_length disk at n (omega (arith, many))) at laid) made)
 
-    pub laid_length : length (put_mid lent.at (lent.end - lent.at) disk back) ≡ length disk
+    pub laid_length : length (put_mid lent.start (lent.end - lent.start) disk back) ≡ length disk
     laid_length = ap length put ∙ length-splice disk at (take n bytes) (omega (arith, made, many))
 
     pub units_laid : {left : Meter} → left ≡ spent z.p m → (flash spare : List ℕ)
-        → running flash spare (put_mid lent.at (lent.end - lent.at) disk back) left ≡ run_all z (unit_stores z b bytes) (running flash spare disk m)
+        → running flash spare (put_mid lent.start (lent.end - lent.start) disk back) left ≡ run_all z (unit_stores z b bytes) (running flash spare disk m)
     units_laid rest flash spare = rw (rest, put) (sym (units_spliced z b bytes flash spare disk m size inside))

@@ -10,21 +10,15 @@ ghost use Rattle.meter.specs.Run.{allowed};
 use device::Store;
 use meter::Meter;
 use model::Sizes;
+use std::ops::Range;
 
-// A part of the disk.
-#[derive(Clone, Copy)]
-pub struct Part {
-    pub at: usize,
-    pub end: usize,
-}
-
-// The part for those units of the back-end bucket b that the allowance lets be made: from its first unit on.
-pub fn place(meter: Meter, z: Sizes, b: usize) -> Part
+// The part of the disk for those units of the back-end bucket b that the allowance lets be made: from its first unit on.
+pub fn place(meter: Meter, z: Sizes, b: usize) -> Range<usize>
     requires { Limits z × (b < z.b) }
-    ensures { result ≡ record { at = b * bucket_size z; end = b * bucket_size z + allowed z.p meter * z.s } }
+    ensures { result ≡ record { start = b * bucket_size z; end = b * bucket_size z + allowed z.p meter * z.s } }
 {
     let first = Store::Unit { index: b * z.p };
-    let at = device::begins(first, z);
-    let end = at + meter::allowed(meter, z.p) * z.s;
-    Part { at, end }
+    let start = device::begins(first, z);
+    let end = start + meter::allowed(meter, z.p) * z.s;
+    start..end
 }

@@ -1,34 +1,34 @@
 // Which Write bucket gives way to a log.
 #![tactic(auto)]
 
-ghost use Rattle.std.specs.Prelude.{◌≡◌, true, ◌≤◌, ◌<◌, take, drop, get_or};
+ghost use Rattle.std.specs.Prelude.{◌≡◌, true, ◌<◌};
 ghost use Rattle.lists.specs.Lists.{all};
 ghost use Rattle.model.specs.State.{caches, is_below};
 ghost use Rattle.model.specs.Operations.{goes_first, least_of, victim, outgoing};
 ghost use Rattle.image.specs.Chip.{Chip, spare_only};
-ghost use Rattle.queue.specs.View.{entries_of, no_entry};
+ghost use Rattle.queue.specs.View.{entries_of};
 ghost use Rattle.state.specs.View.{places_of};
 
-use model::{Entry, Sizes, Victim};
+use model::{Entry, Sizes};
 use queue::Queue;
 use state::State;
 
 // b's own, which is too full; or, in a full queue, the victim's.
-pub fn outgoing(s: State, b: u16, spare: &[u8]) -> Victim
+pub fn outgoing(s: State, b: u16, spare: &[u8]) -> Option<u16>
     requires chip { Chip s.sizes spare.now }
     requires writes_value { all (is_below s.sizes.c) (caches (entries_of s.writes)) ≡ true }
     ensures { result ≡ outgoing s.sizes (spare_only spare.now) b (places_of s) }
 {
     let writes = s.writes;
     if writes.holds(b) {
-        return Victim::Bucket(b);
+        return Some(b);
     }
     let n = writes.used();
     if s.sizes.w <= n {
         let back = victim_of(writes, s.sizes, spare);
-        return Victim::Bucket(back);
+        return Some(back);
     }
-    Victim::Nobody
+    None
 }
 
 // The back-end bucket of the smallest priority, then the smallest epoch; 0 where there is none.
@@ -38,28 +38,23 @@ fn victim_of(candidates: Queue, z: Sizes, spare: &[u8]) -> u16
     ensures { result ≡ victim z (spare_only spare.now) (entries_of candidates) }
 {
     let n = candidates.used();
-    if n == 0 {
-        return 0;
-    }
     let items = candidates.items;
-    let least = least_of(items, n, z, spare);
-    least.back
+    match items[..n].split_first() {
+        Some((first, rest)) => least_of(*first, rest, z, spare).back,
+        None => 0,
+    }
 }
 
-// The least of the first n.
-fn least_of(items: [Entry; 64], n: usize, z: Sizes, spare: &[u8]) -> Entry
+// The least of the first and the rest.
+fn least_of(first: Entry, rest: &[Entry], z: Sizes, spare: &[u8]) -> Entry
     requires chip { Chip z spare.now }
-    requires le_n { (1 ≤ n) × (n ≤ 64) }
-    requires value { all (is_below z.c) (caches (take n items)) ≡ true }
-    ensures { result ≡ least_of z (spare_only spare.now) (get_or items 0 no_entry) (drop 1 (take n items)) }
+    requires on_chip { (first.cache < z.c) × (all (is_below z.c) (caches rest.now) ≡ true) }
+    ensures { result ≡ least_of z (spare_only spare.now) first rest.now }
 {
-    let mut least = items[0];
-    let mut i = 1;
-    while i < n {
-        let e = items[i];
-        i += 1;
-        if goes_first(e, least, z, spare) {
-            least = e;
+    let mut least = first;
+    for e in rest {
+        if goes_first(*e, least, z, spare) {
+            least = *e;
         }
     }
     least

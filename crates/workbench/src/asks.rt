@@ -92,20 +92,20 @@ pub fn call_line(
     let request = frame::frame_request(line);
     let recorder = b.recorder;
     let asked = drive::asks(recorder.formatted, recorder.sizes, request);
-    if asked.unmade != 0 {
-        return bench::told(b.with_less(lend::no_less()), asked.unmade, out);
+    match asked.makes {
+        Ok(()) => called_line(
+            b,
+            asked.sizes,
+            asked.format,
+            request,
+            line,
+            flash,
+            spare,
+            disk,
+            out,
+        ),
+        Err(refusal) => bench::told(b.with_less(lend::no_less()), refusal.number(), out),
     }
-    called_line(
-        b,
-        asked.sizes,
-        asked.format,
-        request,
-        line,
-        flash,
-        spare,
-        disk,
-        out,
-    )
 }
 
 // Fields: cache bucket (2), page (1). It goes by the state's sizes.

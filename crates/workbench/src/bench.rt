@@ -16,7 +16,7 @@ const LONGEST: usize = 8192;
 // The last of the driving program's operations.
 const RECOVER: u8 = 0x06;
 
-// The further operations.
+// The further operations: numbers, as `Fields` names them.
 const PUT_STATE: u8 = 0x10;
 
 const SHOW_STATE: u8 = 0x11;

@@ -5,11 +5,7 @@ ghost use Rattle.model.specs.Spare.{two, four};
 pub fn byte_at(fields: &[u8], at: usize) -> usize
     ensures { (result ≡ get_or fields.now at 0) × (result < 256) }
 {
-    if at < fields.len() {
-        fields[at] as usize
-    } else {
-        0
-    }
+    usize::from(fields.get(at).copied().unwrap_or(0))
 }
 
 pub fn number_at(fields: &[u8], at: usize) -> usize

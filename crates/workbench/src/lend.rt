@@ -22,20 +22,15 @@ pub fn less(fields: &[u8]) -> Lengths {
     Lengths { flash, spare, disk }
 }
 
-// Empty where that is as many as there are, or more.
-fn shortened(length: usize, less: usize) -> usize
-    ensures { result ≤ length }
-{
-    if less < length { length - less } else { 0 }
-}
-
+// An area is empty where that is as many bytes as it has, or more.
 pub fn lent(z: Sizes, less: Lengths) -> Lengths
     requires { Held z }
     ensures { (result.flash ≤ 32768) × (result.spare ≤ 32768) × (result.disk ≤ 16384) }
 {
     let whole = calls::lengths_of(z);
-    let flash = shortened(whole.flash, less.flash);
-    let spare = shortened(whole.spare, less.spare);
-    let disk = shortened(whole.disk, less.disk);
-    Lengths { flash, spare, disk }
+    Lengths {
+        flash: whole.flash.saturating_sub(less.flash),
+        spare: whole.spare.saturating_sub(less.spare),
+        disk: whole.disk.saturating_sub(less.disk),
+    }
 }

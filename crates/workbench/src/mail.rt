@@ -45,13 +45,7 @@ fn write_behind(z: Sizes, flash: &[u8], spare: &[u8], bytes: &mut [u8]) -> Writt
 {
     let written = send::write_text(z, flash, spare, &mut bytes[LENGTH_BYTES..]);
     let length = written.length;
-    let head = [
-        (length / 16777216 % 256) as u8,
-        (length / 65536 % 256) as u8,
-        (length / 256 % 256) as u8,
-        (length % 256) as u8,
-    ];
-    area::write_at(bytes, 0, &head);
+    area::write_at(bytes, 0, &length.to_be_bytes()[LENGTH_BYTES..]);
     written
 }
 

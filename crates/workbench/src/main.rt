@@ -108,6 +108,7 @@ fn walk_piece(
 {
     let mut walk = w;
     let mut from = 0;
+    // no `for`: each step is as long as the line
     while from < piece.len() && !walk.failed {
         let end = lines::line_end(piece, from);
         let last = end < piece.len();
@@ -127,7 +128,7 @@ fn walk_piece(
     walk
 }
 
-// Nothing says that the input ends, so the loop counts its turns down.
+// Nothing says that the input ends, so the loop counts its turns.
 fn walk_pieces(
     streams: &mut Streams,
     w: Walk,
@@ -143,9 +144,7 @@ fn walk_pieces(
 {
     let mut walk = w;
     let mut ended = false;
-    let mut more = true;
-    let mut turns = u64::MAX;
-    while more && turns > 0 {
+    for _ in 0..u64::MAX {
         let got = streams::read_piece(streams, piece);
         let count = got.count;
         walk = walk_piece(
@@ -159,8 +158,9 @@ fn walk_pieces(
             out,
         );
         ended = got.ended;
-        more = (count > 0) & !walk.failed;
-        turns -= 1;
+        if count == 0 || walk.failed {
+            break;
+        }
     }
     Came { walk, ended }
 }

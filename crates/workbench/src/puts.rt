@@ -10,12 +10,11 @@ pub fn put_page(z: Sizes, fields: &[u8], flash: &mut [u8], spare: &mut [u8]) -> 
     requires held { Held z × (length fields.now ≡ 19 + z.s) }
     requires flash_len { (length flash.old ≡ 32768) × (length spare.old ≡ 32768) }
 {
-    let page = place::page(z, fields);
-    if !page.there {
+    let Some(page) = place::page(z, fields) else {
         return place::NO_PLACE;
-    }
-    area::write_at(spare, page.number * 16, &fields[3..19]);
-    area::write_at(flash, page.number * z.s, &fields[19..]);
+    };
+    area::write_at(spare, page * 16, &fields[3..19]);
+    area::write_at(flash, page * z.s, &fields[19..]);
     model::DONE
 }
 
@@ -23,10 +22,9 @@ pub fn put_page(z: Sizes, fields: &[u8], flash: &mut [u8], spare: &mut [u8]) -> 
 pub fn put_unit(z: Sizes, fields: &[u8], disk: &mut [u8]) -> u8
     requires { Held z × (length fields.now ≡ 3 + z.s) × (length disk.old ≡ 16384) }
 {
-    let unit = place::unit(z, fields);
-    if !unit.there {
+    let Some(unit) = place::unit(z, fields) else {
         return place::NO_PLACE;
-    }
-    area::write_at(disk, unit.number * z.s, &fields[3..]);
+    };
+    area::write_at(disk, unit * z.s, &fields[3..]);
     model::DONE
 }

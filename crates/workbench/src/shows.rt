@@ -32,8 +32,10 @@ pub fn show_state(s: State, out: &mut [u8]) -> usize
     ensures { result ≤ length out.new }
 {
     let mut bytes = [0u8; form::LONGEST];
-    let count = form::state_bytes(s, &mut bytes);
-    show(model::DONE, &bytes[..count], out)
+    match form::state_bytes(s, &mut bytes) {
+        Some(count) => show(model::DONE, &bytes[..count], out),
+        None => show_answer(model::DONE, out),
+    }
 }
 
 // Fields: bucket (2), page (1). Shown are 16 spare bytes and S of data.
@@ -41,13 +43,12 @@ pub fn show_page(z: Sizes, fields: &[u8], flash: &[u8], spare: &[u8], out: &mut 
     requires { Held z × (length flash.now ≡ 32768) × (length spare.now ≡ 32768) × (text_room ≤ length out.old) }
     ensures { result ≤ length out.new }
 {
-    let page = place::page(z, fields);
-    if !page.there {
+    let Some(page) = place::page(z, fields) else {
         return show_answer(place::NO_PLACE, out);
-    }
-    let spare_at = page.number * 16;
+    };
+    let spare_at = page * 16;
     let spare_end = spare_at + 16;
-    let data_at = page.number * z.s;
+    let data_at = page * z.s;
     let data_end = data_at + z.s;
     let mut bytes = [0u8; PAGE];
     area::write_at(&mut bytes, 0, &spare[spare_at..spare_end]);
@@ -61,11 +62,10 @@ pub fn show_unit(z: Sizes, fields: &[u8], disk: &[u8], out: &mut [u8]) -> usize
     requires { Held z × (length disk.now ≡ 16384) × (text_room ≤ length out.old) }
     ensures { result ≤ length out.new }
 {
-    let unit = place::unit(z, fields);
-    if !unit.there {
+    let Some(unit) = place::unit(z, fields) else {
         return show_answer(place::NO_PLACE, out);
-    }
-    let at = unit.number * z.s;
+    };
+    let at = unit * z.s;
     let end = at + z.s;
     show(model::DONE, &disk[at..end], out)
 }

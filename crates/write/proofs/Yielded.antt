@@ -10,8 +10,7 @@ use lib.Dec.{leb}
 use borrow.Author.Tests.{leb-true, leb-false}
 use Rattle.lists.proofs.Tests.{and_left, and_right, true_or_false}
 use Rattle.model.specs.declared.Sizes.{Sizes}
-use Rattle.model.specs.declared.Victim.{Victim}
-use Rattle.model.specs.declared.Victim.TheVariants.{Nobody, Bucket}
+use Rattle.std.specs.Prelude.{Option, Some, None}
 use Rattle.model.specs.Sizes.{Device, pages_for}
 use Rattle.model.specs.State.{State, holds, blank_of}
 use Rattle.model.specs.Steps.{◌then◌, nothing, make_room}
@@ -40,31 +39,31 @@ unfolding kept_fits
 fit_pages b n s h = leb-true n (blank_of b s.writes) (and_right (holds b s.writes) (leb n (blank_of b s.writes)) h)
 
 -- what gives way is held
-pub outgoing_held : (z : Sizes) (d : Device) (b v : ℕ) (s : State) → 1 ≤ z.w → outgoing z d b s ≡ Bucket v → holds v s.writes ≡ true
+pub outgoing_held : (z : Sizes) (d : Device) (b v : ℕ) (s : State) → 1 ≤ z.w → outgoing z d b s ≡ Some v → holds v s.writes ≡ true
 unfolding outgoing
 outgoing_held z d b v s some e = go (true_or_false (holds b s.writes)) (true_or_false (leb z.w (length s.writes)))
   where
     go : (holds b s.writes ≡ true) ⊎ (holds b s.writes ≡ false) → (leb z.w (length s.writes) ≡ true) ⊎ (leb z.w (length s.writes) ≡ false)
         → holds v s.writes ≡ true
-    go (inl h) q = let is : Bucket b ≡ Bucket v = rw h at e in let same : b ≡ v = cc in rw (← same) h
+    go (inl h) q = let is : Some b ≡ Some v = rw h at e in let same : b ≡ v = cc in rw (← same) h
     go (inr n) (inl q) =
-        let is : Bucket (victim z d s.writes) ≡ Bucket v = rw (n, q) at e in
+        let is : Some (victim z d s.writes) ≡ Some v = rw (n, q) at e in
         let same : victim z d s.writes ≡ v = cc in
         rw (← same) (victim_in z d s.writes (omega (arith, leb-true z.w (length s.writes) q)))
     go (inr n) (inr q) =
-        let is : Nobody ≡ Bucket v = rw (n, q) at e in
+        let is : None ≡ Some v = rw (n, q) at e in
         let never : ◌≡◌ {A = ℕ} 0 1 = cc in
         absurd (omega arith)
 
 -- if nothing does, the queue has room
-pub nobody_room : (z : Sizes) (d : Device) (b : ℕ) (s : State) → outgoing z d b s ≡ Nobody → length s.writes < z.w
+pub nobody_room : (z : Sizes) (d : Device) (b : ℕ) (s : State) → outgoing z d b s ≡ None → length s.writes < z.w
 unfolding outgoing
 nobody_room z d b s e = go (true_or_false (holds b s.writes)) (true_or_false (leb z.w (length s.writes)))
   where
     go : (holds b s.writes ≡ true) ⊎ (holds b s.writes ≡ false) → (leb z.w (length s.writes) ≡ true) ⊎ (leb z.w (length s.writes) ≡ false)
         → length s.writes < z.w
-    go (inl h) q = let is : Bucket b ≡ Nobody = rw h at e in let never : ◌≡◌ {A = ℕ} 0 1 = cc in absurd (omega arith)
-    go (inr n) (inl q) = let is : Bucket (victim z d s.writes) ≡ Nobody = rw (n, q) at e in let never : ◌≡◌ {A = ℕ} 0 1 = cc in absurd (omega arith)
+    go (inl h) q = let is : Some b ≡ None = rw h at e in let never : ◌≡◌ {A = ℕ} 0 1 = cc in absurd (omega arith)
+    go (inr n) (inl q) = let is : Some (victim z d s.writes) ≡ None = rw (n, q) at e in let never : ◌≡◌ {A = ℕ} 0 1 = cc in absurd (omega arith)
     go (inr n) (inr q) = leb-false z.w (length s.writes) q
 
 -- t has a place in the write queue, and an epoch for the log
@@ -94,9 +93,9 @@ module _ (s : State) (spare : List ℕ) (y : Yields s spare) (d : Device) where
       limits : Limits s.sizes
       limits = y.ready.orderly.limits
 
-      go : (o : Victim) → outgoing s.sizes d b s ≡ o → Way s (evict_any s.sizes o s d).state
-      go (Bucket v) e = evicted_way (evicted s v (yields_evicts y v (outgoing_held s.sizes d b v s limits.w_low e)) s.sizes d)
-      go Nobody e = record {
+      go : (o : Option ℕ) → outgoing s.sizes d b s ≡ o → Way s (evict_any s.sizes o s d).state
+      go (Some v) e = evicted_way (evicted s v (yields_evicts y v (outgoing_held s.sizes d b v s limits.w_low e)) s.sizes d)
+      go None e = record {
         ready = y.ready;
         sizes = refl;
         place = omega (arith, nobody_room s.sizes d b s e, limits.w_high);

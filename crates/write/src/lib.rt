@@ -12,7 +12,7 @@ ghost use Rattle.outcome.specs.Handed.{handed_back, handed};
 ghost use Rattle.write.specs.Writes.{Yields, Writes};
 
 use meter::Meter;
-use model::{Answer, Victim};
+use model::Answer;
 use outcome::Outcome;
 use state::State;
 use steps::Turn;
@@ -33,8 +33,8 @@ fn make_way(
 {
     let out = victim::outgoing(s, b, spare);
     match out {
-        Victim::Bucket(v) => evict::evict(meter, s, v, flash, spare, disk),
-        Victim::Nobody => Turn { meter, state: s },
+        Some(v) => evict::evict(meter, s, v, flash, spare, disk),
+        None => Turn { meter, state: s },
     }
 }
 
@@ -98,10 +98,8 @@ pub fn write(
 ) -> Outcome
     ensures { handed_back (device flash.new spare.new disk.new) [] result ≡ handed s (call allowance (write_call b offset bytes.now) (view_of s) (device flash.old spare.old disk.old)) }
 {
-    let number = checks::write_refusal(s, b, offset, bytes.len(), flash, spare, disk);
-    if number == 0 {
-        write_bytes(s, b, offset as u16, bytes, allowance, flash, spare, disk)
-    } else {
-        outcome::refused(number, s)
+    match checks::check_write(s, b, offset, bytes.len(), flash, spare, disk) {
+        Ok(()) => write_bytes(s, b, offset as u16, bytes, allowance, flash, spare, disk),
+        Err(refusal) => outcome::refused(refusal.number(), s),
     }
 }

@@ -6,51 +6,70 @@ use Rattle.geometry.proofs.Passed.{products}
 use Rattle.model.specs.Sizes.{bucket_size}
 use Rattle.model.specs.State.{cache_of}
 use Rattle.model.proofs.Buckets.{blanks_most}
+use Rattle.model.proofs.Limits.{pages-some}
+use Rattle.queue.proofs.Found.{found_some, blank-held}
 use Rattle.queue.specs.View.{entries_of}
+use mathlib.Core.Path.{sym, ◌∙◌}
 use native.Mathlib.Omega.{arith}
+use lib.ListN.{length}
 use borrow.Author.Rules.{rules}
 use Rattle.arrival.proofs.append_log.Goals as goal
 
+pub unwrap-own-requires : goal.unwrap-own-requires
+unwrap-own-requires c =
+    let a = c.args in
+    let appends = c.requires.appends in
+    let some = pages-some a.s.sizes (length a.bytes.now) (omega (arith, appends.limits.s_low)) appends.some in
+    rw c.find.ensures (blank-held a.b (entries_of a.s.writes) (omega (arith, some, appends.pages)))
+
 pub used_epoch-epoch-requires : goal.used_epoch-epoch-requires
-used_epoch-epoch-requires c = let start = c in
-    record { chip = search rules; c_lt_c = search rules; c_value = rw c.find-own.ensures.1 start.requires.appends.programmed }
+used_epoch-epoch-requires c =
+    let own = found_some c.args.b (entries_of c.args.s.writes) c.unwrap-own.result (sym c.find.ensures ∙ c.unwrap-own.ensures) in
+    let appends = c.requires.appends in
+    record { chip = search rules; c_lt_c = rw (← own.cache) appends.bucket; c_value = rw (← own.cache) appends.programmed }
 
 pub pages_for-pages-requires : goal.pages_for-pages-requires
 unfolding bucket_size
-pages_for-pages-requires c = let appends = c.requires.appends in
+pages_for-pages-requires c =
+    let appends = c.requires.appends in
     (appends.limits, omega (arith, appends.room, products appends.limits))
 
 pub overflow_sub-first : goal.overflow_sub-first
-overflow_sub-first c = let start = c in
-    let a = start.args in
-    omega (arith, c.find-own.ensures.3, start.requires.appends.count, blanks_most a.s.sizes (spare_only a.spare.now) (cache_of a.b (entries_of a.s.writes)))
+overflow_sub-first c =
+    let a = c.args in
+    let own = found_some a.b (entries_of a.s.writes) c.unwrap-own.result (sym c.find.ensures ∙ c.unwrap-own.ensures) in
+    omega (arith, own.blank, c.requires.appends.count, blanks_most a.s.sizes (spare_only a.spare.now) (cache_of a.b (entries_of a.s.writes)))
 
 pub overflow_sub-rest : goal.overflow_sub-rest
-overflow_sub-rest c = let start = c in
-    omega (arith, c.pages_for-pages.ensures, c.find-own.ensures.3, start.requires.appends.pages)
+overflow_sub-rest c =
+    let own = found_some c.args.b (entries_of c.args.s.writes) c.unwrap-own.result (sym c.find.ensures ∙ c.unwrap-own.ensures) in
+    omega (arith, c.pages_for-pages.ensures, own.blank, c.requires.appends.pages)
 
 pub program_log-left-requires : goal.program_log-left-requires
-program_log-left-requires c = let found = c.find-own.ensures in
-    let start = c in
-    let a = start.args in
-    let appends = start.requires.appends in record {
-      lent = start.requires.lent;
+program_log-left-requires c =
+    let a = c.args in
+    let appends = c.requires.appends in
+    let own = found_some a.b (entries_of a.s.writes) c.unwrap-own.result (sym c.find.ensures ∙ c.unwrap-own.ensures) in
+    record {
+      lent = c.requires.lent;
       fits = record {
         limits = appends.limits;
-        bucket = omega (arith, found.1, appends.bucket);
+        bucket = omega (arith, own.cache, appends.bucket);
         some = appends.some;
-        room = omega (arith, found.3, appends.count, appends.pages, blanks_most a.s.sizes (spare_only a.spare.now) (cache_of a.b (entries_of a.s.writes)));
+        room = omega (arith, own.blank, appends.count, appends.pages, blanks_most a.s.sizes (spare_only a.spare.now) (cache_of a.b (entries_of a.s.writes)));
       };
     }
 
 pub returns : goal.returns
-returns c = let found = c.find-own in
+returns c =
+    let a = c.args in
+    let e = c.unwrap-own.result in
+    let own = found_some a.b (entries_of a.s.writes) e (sym c.find.ensures ∙ c.unwrap-own.ensures) in
     let epoch = c.used_epoch-epoch in
-    let pages-for = c.pages_for-pages in
-    let start = c in
-    let a = start.args in
-    let written = c.program_log-left.ensures in record {
+    let pages = c.pages_for-pages in
+    let written = c.program_log-left.ensures in
+    record {
       result_after = rw (written.result_after, c.accept-state.ensures)
-          (appended_by a.s.sizes a.b a.offset a.bytes.now (places_of a.s) (running a.flash.now a.spare.now a.disk.now a.meter) start.requires.appends.count found.result.cache found.result.blank epoch.result pages-for.result found.ensures.1 found.ensures.3 epoch.ensures pages-for.ensures);
+          (appended_by a.s.sizes a.b a.offset a.bytes.now (places_of a.s) (running a.flash.now a.spare.now a.disk.now a.meter) c.requires.appends.count e.cache e.blank epoch.result pages.result (sym own.cache) (sym own.blank) epoch.ensures pages.ensures);
       lent_2 = written.lent_2;
     }

@@ -1,14 +1,12 @@
 -- `calls::make` meets its contract.
 use lib.ListN.{length-replicate, length-drop}
 use native.Mathlib.Omega.{arith}
-use mathlib.Core.Bool.{true≢false}
-use mathlib.Core.Path.{refl, sym, ap, ◌∙◌}
-use Rattle.frame.proofs.Meaning.{is_bad, call_from, allowance_of}
+use mathlib.Core.Path.{refl, sym, ◌∙◌}
+use Rattle.frame.proofs.Meaning.{call_from, allowance_of}
 use Rattle.geometry.specs.Geometry.{device}
 use Rattle.model.specs.Calls.{lent_buffer}
 use Rattle.model.specs.Driving.{bytes_of}
-use Rattle.calls.specs.Arrays.{seen}
-use Rattle.calls.proofs.Asked.{asked_good, asked_narrow, asked_made}
+use Rattle.calls.proofs.Asked.{asked_narrow, asked_made, unread_made}
 use Rattle.calls.proofs.make.Goals as goal
 
 pub read_call-requires : goal.read_call-requires
@@ -21,17 +19,11 @@ write_call-requires c =
     let n = asked_narrow c.args.line.now c.requires.framed (sym c.in-Write.is) in
     record { bucket_bound = (n.0, c.requires.framed.digits, omega (arith, n.1, length-drop c.in-Write.data.at (bytes_of c.args.line.now), c.requires.framed.short, c.requires.most_read_in_bounds)); length_value = n.1 }
 
-pub returns-in-Bad : goal.returns-in-Bad
-unfolding is_bad
-returns-in-Bad c = absurd (true≢false (asked_good c.args.line.now c.requires.framed (sym c.in-Bad.is)))
-
 pub returns-in-Format : goal.returns-in-Format
 unfolding lent_buffer call_from allowance_of
 returns-in-Format c =
-    let a = c.args in
-    let e = sym c.in-Format.is in
-    let made = asked_made a.line.now c.requires.framed e a.z a.s (device a.flash.now a.spare.now a.disk.now) refl (ap seen c.format.ensures) in
-    rw (c.unread-in-Format.ensures.0, c.unread-in-Format.ensures.1) (record { outcome_after = made.0; read_value = made.1 })
+    let made = unread_made c.args.line.now c.requires.framed (sym c.in-Format.is) c.args.z c.args.s (device c.args.flash.now c.args.spare.now c.args.disk.now) _ _ c.unread.ensures refl c.format.ensures in
+    record { outcome_after = made.0; read_value = made.1 }
 
 pub returns-in-Read : goal.returns-in-Read
 unfolding lent_buffer call_from allowance_of
@@ -44,32 +36,23 @@ returns-in-Read c =
 pub returns-in-Write : goal.returns-in-Write
 unfolding lent_buffer call_from allowance_of
 returns-in-Write c =
-    let write-call = c.write_call in
-    let a = c.args in
-    let e = sym c.in-Write.is in
-    let made = asked_made a.line.now c.requires.framed e a.z a.s (device a.flash.now a.spare.now a.disk.now) refl (ap seen write-call.ensures) in
-    rw (c.unread-in-Write.ensures.0, c.unread-in-Write.ensures.1) (record { outcome_after = made.0; read_value = made.1 })
+    let made = unread_made c.args.line.now c.requires.framed (sym c.in-Write.is) c.args.z c.args.s (device c.args.flash.now c.args.spare.now c.args.disk.now) _ _ c.unread-in-Write.ensures refl c.write_call.ensures in
+    record { outcome_after = made.0; read_value = made.1 }
 
 pub returns-in-Erase : goal.returns-in-Erase
 unfolding lent_buffer call_from allowance_of
 returns-in-Erase c =
-    let a = c.args in
-    let e = sym c.in-Erase.is in
-    let made = asked_made a.line.now c.requires.framed e a.z a.s (device a.flash.now a.spare.now a.disk.now) refl (ap seen c.erase_step.ensures) in
-    rw (c.unread-in-Erase.ensures.0, c.unread-in-Erase.ensures.1) (record { outcome_after = made.0; read_value = made.1 })
+    let made = unread_made c.args.line.now c.requires.framed (sym c.in-Erase.is) c.args.z c.args.s (device c.args.flash.now c.args.spare.now c.args.disk.now) _ _ c.unread-in-Erase.ensures refl c.erase_step.ensures in
+    record { outcome_after = made.0; read_value = made.1 }
 
 pub returns-in-Drain : goal.returns-in-Drain
 unfolding lent_buffer call_from allowance_of
 returns-in-Drain c =
-    let a = c.args in
-    let e = sym c.in-Drain.is in
-    let made = asked_made a.line.now c.requires.framed e a.z a.s (device a.flash.now a.spare.now a.disk.now) refl (ap seen c.drain.ensures) in
-    rw (c.unread-in-Drain.ensures.0, c.unread-in-Drain.ensures.1) (record { outcome_after = made.0; read_value = made.1 })
+    let made = unread_made c.args.line.now c.requires.framed (sym c.in-Drain.is) c.args.z c.args.s (device c.args.flash.now c.args.spare.now c.args.disk.now) _ _ c.unread-in-Drain.ensures refl c.drain.ensures in
+    record { outcome_after = made.0; read_value = made.1 }
 
 pub returns-in-Recover : goal.returns-in-Recover
 unfolding lent_buffer call_from allowance_of
 returns-in-Recover c =
-    let a = c.args in
-    let e = sym c.in-Recover.is in
-    let made = asked_made a.line.now c.requires.framed e a.z a.s (device a.flash.now a.spare.now a.disk.now) refl (ap seen c.recover.ensures) in
-    rw (c.unread-in-Recover.ensures.0, c.unread-in-Recover.ensures.1) (record { outcome_after = made.0; read_value = made.1 })
+    let made = unread_made c.args.line.now c.requires.framed (sym c.in-Recover.is) c.args.z c.args.s (device c.args.flash.now c.args.spare.now c.args.disk.now) _ _ c.unread-in-Recover.ensures refl c.recover.ensures in
+    record { outcome_after = made.0; read_value = made.1 }

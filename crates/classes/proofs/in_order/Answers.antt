@@ -9,8 +9,8 @@ use Rattle.lists.specs.Lists.{sort_by}
 use Rattle.classes.proofs.in_order.Goals as goal
 
 pub by_epoch-requires : goal.by_epoch-requires
-by_epoch-requires c = let s = c in let z = s.args.z in let d = spare_only s.args.spare.now in
-    record { chip = s.requires.chip; buckets_value = rw c.buckets-used.ensures (buckets-below z d (used z d)); buckets_value_2 = rw c.buckets-used.ensures (epochs_distinct z d s.requires.spare_value (buckets z d (used z d)) (once_buckets z d (used z d)) (λ x h. let p = in_buckets z d (used z d) x h in (p.1, p.0))) }
+by_epoch-requires c = let z = c.args.z in let d = spare_only c.args.spare.now in
+    record { chip = c.requires.chip; buckets_value = rw c.buckets-used.ensures (buckets-below z d (used z d)); buckets_value_2 = rw c.buckets-used.ensures (epochs_distinct z d c.requires.spare_value (buckets z d (used z d)) (once_buckets z d (used z d)) (λ x h. let p = in_buckets z d (used z d) x h in (p.1, p.0))) }
 
 pub returns : goal.returns
 unfolding by_epoch

@@ -6,16 +6,32 @@ use Rattle.image.proofs.First.{formed_bucket}
 use Rattle.classes.proofs.is_a.Goals as goal
 
 pub used-requires : goal.used-requires
-used-requires c = let s = c in let z = s.args.z in record { chip = s.requires.chip; c_lt_c = on_chip z s.args.c s.requires.c_bound; c_value = formed_bucket z (spare_only s.args.spare.now) s.requires.spare_value s.args.c s.requires.c_bound }
+used-requires c = record {
+  chip = c.requires.chip;
+  c_lt_c = on_chip c.args.z c.args.c c.requires.c_bound;
+  c_value = formed_bucket c.args.z (spare_only c.args.spare.now) c.requires.spare_value c.args.c c.requires.c_bound;
+}
 
 pub is_free-requires : goal.is_free-requires
-is_free-requires c = let s = c in let z = s.args.z in record { chip = s.requires.chip; c_lt_c = on_chip z s.args.c s.requires.c_bound; c_value = formed_bucket z (spare_only s.args.spare.now) s.requires.spare_value s.args.c s.requires.c_bound }
+is_free-requires c = record {
+  chip = c.requires.chip;
+  c_lt_c = on_chip c.args.z c.args.c c.requires.c_bound;
+  c_value = formed_bucket c.args.z (spare_only c.args.spare.now) c.requires.spare_value c.args.c c.requires.c_bound;
+}
 
 pub is_copy-requires : goal.is_copy-requires
-is_copy-requires c = let s = c in let z = s.args.z in record { chip = s.requires.chip; c_lt_c = on_chip z s.args.c s.requires.c_bound; c_value = formed_bucket z (spare_only s.args.spare.now) s.requires.spare_value s.args.c s.requires.c_bound }
+is_copy-requires c = record {
+  chip = c.requires.chip;
+  c_lt_c = on_chip c.args.z c.args.c c.requires.c_bound;
+  c_value = formed_bucket c.args.z (spare_only c.args.spare.now) c.requires.spare_value c.args.c c.requires.c_bound;
+}
 
 pub complete-requires : goal.complete-requires
-complete-requires c = let s = c in let z = s.args.z in record { chip = s.requires.chip; c_lt_c = on_chip z s.args.c s.requires.c_bound; c_value = formed_bucket z (spare_only s.args.spare.now) s.requires.spare_value s.args.c s.requires.c_bound }
+complete-requires c = record {
+  chip = c.requires.chip;
+  c_lt_c = on_chip c.args.z c.args.c c.requires.c_bound;
+  c_value = formed_bucket c.args.z (spare_only c.args.spare.now) c.requires.spare_value c.args.c c.requires.c_bound;
+}
 
 pub returns-in-Used : goal.returns-in-Used
 returns-in-Used c = rw (c.in-Used.is, c.used.ensures)

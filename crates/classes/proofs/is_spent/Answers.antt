@@ -7,14 +7,22 @@ use mathlib.Core.Path.{sym, ◌∙◌}
 use Rattle.classes.proofs.is_spent.Goals as goal
 
 pub is_free-requires : goal.is_free-requires
-is_free-requires c = let s = c in let z = s.args.z in record { chip = s.requires.chip; c_lt_c = on_chip z s.args.c s.requires.c_bound; c_value = formed_bucket z (spare_only s.args.spare.now) s.requires.spare_value s.args.c s.requires.c_bound }
+is_free-requires c = record {
+  chip = c.requires.chip;
+  c_lt_c = on_chip c.args.z c.args.c c.requires.c_bound;
+  c_value = formed_bucket c.args.z (spare_only c.args.spare.now) c.requires.spare_value c.args.c c.requires.c_bound;
+}
 
 pub returns-then-is_free : goal.returns-then-is_free
 unfolding is_spent is_free page_blank
 returns-then-is_free c = rw (sym c.is_free.ensures ∙ c.if-is_free.true)
 
 pub used-requires : goal.used-requires
-used-requires c = let s = c in let z = s.args.z in record { chip = s.requires.chip; c_lt_c = on_chip z s.args.c s.requires.c_bound; c_value = formed_bucket z (spare_only s.args.spare.now) s.requires.spare_value s.args.c s.requires.c_bound }
+used-requires c = record {
+  chip = c.requires.chip;
+  c_lt_c = on_chip c.args.z c.args.c c.requires.c_bound;
+  c_value = formed_bucket c.args.z (spare_only c.args.spare.now) c.requires.spare_value c.args.c c.requires.c_bound;
+}
 
 pub returns : goal.returns
 unfolding is_spent is_free page_blank

@@ -7,20 +7,22 @@ use Rattle.lists.proofs.Filters.{times_more}
 use Rattle.lists.specs.Lists.{times}
 use mathlib.Core.Path.{refl, ap, sym, ◌∙◌}
 use native.Mathlib.Omega.{arith}
-use borrow.Author.Rules.{rules}
-use Rattle.classes.proofs.occurrences.Goals.{else-b-column, then-b-column}
+use Rattle.classes.proofs.occurrences.Goals.{else-b-x, then-b-x}
 use Rattle.classes.proofs.occurrences.Goals as goal
 
-pub loop-i-init : goal.loop-i-init
+pub loop-x-init : goal.loop-x-init
 unfolding times
-loop-i-init c = (omega arith, search rules, omega arith, refl)
+loop-x-init c = (omega arith, refl)
 
-pub loop-i-preserved : goal.loop-i-preserved
-loop-i-preserved c = let l = c.loop-i in
+pub loop-x-preserved : goal.loop-x-preserved
+loop-x-preserved c = let l = c.loop-x in
     let x = c.args in
-    let more = times_more x.b l.i x.column.now (omega arith) in
-    elim c.if-b-column.branch [ then-b-column w ↦ (omega arith, l.invariant.1, omega (arith, w.count-is), omega (arith, w.count-is, more, l.invariant.3, ap (λ (y : ℕ). times x.b (y ∷ [])) (sym w.if-b-column.true), times_self x.b)) | else-b-column w ↦ (omega arith, l.invariant.1, omega (arith, w.count-is), omega (arith, w.count-is, more, l.invariant.3, times_other x.b (get_or x.column.now l.i 0) w.if-b-column.false)) ]
+    let more = times_more x.b l.x-index x.column.now (omega arith) in
+    elim c.if-b-x.branch [
+      | then-b-x w ↦ (omega (arith, w.count-is), omega (arith, w.count-is, more, l.invariant.1, ap (λ (y : ℕ). times x.b (y ∷ [])) (sym w.if-b-x.true), times_self x.b))
+      | else-b-x w ↦ (omega (arith, w.count-is), omega (arith, w.count-is, more, l.invariant.1, times_other x.b (get_or x.column.now l.x-index 0) w.if-b-x.false))
+    ]
 
 pub returns : goal.returns
-returns c = let l = c.loop-i in
-    l.invariant.3 ∙ ap (times c.args.b) (take_all l.i c.args.column.now (omega arith))
+returns c = let column = c.args.column.now in
+    c.loop-x.invariant.1 ∙ ap (times c.args.b) (take_all c.loop-x.x-index column (omega arith))

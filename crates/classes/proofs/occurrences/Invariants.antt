@@ -1,11 +1,8 @@
-use Prim.Native.Nat.{◌≤◌, ◌-◌}
-use lib.ListN.{length, take}
+use lib.ListN.{take}
+use Prim.Native.Nat.{◌≤◌}
 use Rattle.lists.specs.Lists.{times}
 use mathlib.Core.Path.{◌≡◌}
 use Rattle.classes.proofs.occurrences.Given as goal
 
-abbrev pub invariant-loop-i : goal.invariant-loop-i
-invariant-loop-i l = (l.i ≤ length l.column) × (length l.column ≤ 256) × (l.count ≤ l.i) × (l.count ≡ times l.b (take l.i l.column))
-
-abbrev pub decreases-loop-i : goal.decreases-loop-i
-decreases-loop-i l = length l.column - l.i
+abbrev pub invariant-loop-x : goal.invariant-loop-x
+invariant-loop-x l = (l.count ≤ l.x-index) × (l.count ≡ times l.b (take l.x-index l.column))

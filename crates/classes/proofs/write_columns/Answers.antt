@@ -8,14 +8,12 @@ use Rattle.model.proofs.Formed.{formed_of}
 use Rattle.classes.proofs.write_columns.Goals as goal
 
 pub all_occurring-requires : goal.all_occurring-requires
-all_occurring-requires c = let s = c in
-    let n = ap length s.requires.order_value in record { other_len_bound = omega (arith, c.writes-1.given, s.requires.writes_len.0, n, order_short s.args.z (spare_only s.args.spare.now), s.requires.chip.limits.ledger_in, s.requires.chip.limits.c_high); out_len = omega (arith, c.writes-1.given, s.requires.writes_len.0, s.requires.writes_len.1) }
+all_occurring-requires c = let n = ap length c.requires.order_value in record { other_len_bound = omega (arith, c.requires.writes_len.0, n, order_short c.args.z (spare_only c.args.spare.now), c.requires.chip.limits.ledger_in, c.requires.chip.limits.c_high); out_len = omega (arith, c.requires.writes_len.0, c.requires.writes_len.1) }
 
 pub returns : goal.returns
 returns c = let fill = c.fill in
-    let s = c in
-    let z = s.args.z in
-    let d = spare_only s.args.spare.now in
-    let formed = formed_of z d s.requires.spare_value in
+    let z = c.args.z in
+    let d = spare_only c.args.spare.now in
+    let formed = formed_of z d c.requires.spare_value in
     let writes = fill.ensures in
-    record { writes_after = writes; dropped_after = c.all_but.ensures ∙ rw (c.all_occurring.ensures, writes, sole_column z d s.requires.chip.limits formed) (dropped_write_column z d s.requires.chip.limits formed) }
+    record { writes_after = writes; dropped_after = c.all_but.ensures ∙ rw (c.all_occurring.ensures, writes, sole_column z d c.requires.chip.limits formed) (dropped_write_column z d c.requires.chip.limits formed) }

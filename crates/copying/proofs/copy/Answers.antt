@@ -1,19 +1,15 @@
-use mathlib.Core.Path.{◌≡◌, sym, ap, ◌∙◌}
+use mathlib.Core.Path.{◌≡◌, ap, ◌∙◌}
 use native.Mathlib.Omega.{arith}
-use lib.ListN.{length}
-use lib.Seq.{length-take-le}
-use borrow.Author.Rules.{rules}
 use Rattle.model.specs.State.{State, cache_of}
 use Rattle.model.specs.Steps.{take_copy}
 use Rattle.geometry.specs.Geometry.{device}
-use Rattle.queue.specs.View.{entries_of}
 use Rattle.meter.specs.Run.{running}
 use Rattle.state.specs.View.{places_of}
 use Rattle.steps.proofs.Kept.{roomed}
+use Rattle.gather.proofs.Gathered.{listed}
 use Rattle.copying.specs.Fresh.{room_of}
-use Rattle.copying.specs.Laid.{found}
 use Rattle.copying.proofs.Copied.{room_inside, copied_cache, copied_by, copied_left}
-use Rattle.copying.proofs.Sourced.{found_is, laid_in, copy_bytes, copy_run}
+use Rattle.copying.proofs.Sourced.{laid_in, copy_bytes, copy_run}
 use Rattle.copying.proofs.copy.Goals as goal
 
 pub roomed-roomed-requires : goal.roomed-roomed-requires
@@ -32,16 +28,6 @@ erase_room-erased-requires c = let start = c in
     let d = device a.flash.now a.spare.now a.disk.now in
     record { lent = start.requires.lent; limits = (start.requires.sources.limits, rw c.room_of-room.ensures (room_inside a.s.sizes (places_of a.s) d start.requires.copies.0.ready)) }
 
-pub slice_bounds-list-end : goal.slice_bounds-list-end
-slice_bounds-list-end c = let logs = c.logs_of-logs in
-    let one : length logs.result.list ≡ 1 = search rules in
-    omega (arith, logs.ensures.0)
-
-pub slice_bounds-fill_room-end : goal.slice_bounds-fill_room-end
-slice_bounds-fill_room-end c = let logs = c.logs_of-logs in
-    let one : length logs.result.list ≡ 1 = search rules in
-    sym (length-take-le logs.result.count logs.result.list (omega (arith, logs.ensures.0)))
-
 pub fill_room-left-requires : goal.fill_room-left-requires
 fill_room-left-requires c = let start = c in
     let a = start.args in
@@ -49,7 +35,11 @@ fill_room-left-requires c = let start = c in
     let sources = start.requires.sources in
     let erased = c.erase_room-erased.ensures in
     let room = c.room_of-room.ensures in
-    let base : c.find-base.result ≡ found a.b (entries_of a.s.reads) = found_is _ a.b (entries_of a.s.reads) c.find-base.ensures in record { laid = rw (c.log_in-target.ensures, c.logs_of-logs.ensures.1, base, room) (laid_in sources copies.0.ready copies.1 a.meter (rw room at erased.result_after) erased.lent_2); first_value = rw c.log_in-target.ensures }
+    let logs = listed _ c.logs_of-logs.ensures c.as_slice.ensures in
+    record {
+      laid = rw (c.log_in-target.ensures, logs, c.find-base.ensures, room) (laid_in sources copies.0.ready copies.1 a.meter (rw room at erased.result_after) erased.lent_2);
+      first_value = rw c.log_in-target.ensures;
+    }
 
 pub shape_of-flash : goal.shape_of-flash
 shape_of-flash c = omega (arith, c.flash-2-1.given, c.flash-1.given)
@@ -71,10 +61,10 @@ returns c = let start = c in
     let erased = c.erase_room-erased.ensures in
     let room = c.room_of-room.ensures in
     let ran = rw room at erased.result_after in
-    let base : c.find-base.result ≡ found a.b (entries_of a.s.reads) = found_is _ a.b (entries_of a.s.reads) c.find-base.ensures in
+    let logs = listed _ c.logs_of-logs.ensures c.as_slice.ensures in
     let cache : cache_of a.b (places_of c.take_copy-state.result).reads ≡ (room_of v).bucket =
     ap (λ (t : State). cache_of a.b t.reads) (c.take_copy-state.ensures ∙ ap (take_copy a.b) (c.roomed-roomed.ensures r.device)) ∙ copied_cache z v r.device a.b in
-    let filled = rw (c.log_in-target.ensures, c.logs_of-logs.ensures.1, base, room) at c.fill_room-left.ensures in record {
+    let filled = rw (c.log_in-target.ensures, logs, c.find-base.ensures, room) at c.fill_room-left.ensures in record {
       result_after = rw c.take_copy-state.ensures
           (copied_by z v r copies.0.ready a.kind a.b _ (copy_run sources copies.0.ready copies.1 a.meter ran a.kind filled.result_after) (c.roomed-roomed.ensures r.device));
       lent_2 = record {

@@ -35,15 +35,15 @@ lay_within-requires c = let p = c.requires in
     record {
       readable = readable laid;
       list_value = laid.logs;
-      target_lt_c = (laid.bucket, on_chip _ _ laid.read, p.n_bound);
-      aside = record { unlisted = laid.logs_aside; lent = inr (refl, laid.read_aside c.if-base.true) };
+      target_lt_c = (laid.bucket, on_chip _ _ (rw c.in-Some.is at laid.read), p.n_bound);
+      aside = record { unlisted = laid.logs_aside; lent = inr (refl, rw c.in-Some.is at laid.read_aside) };
     }
 
-pub returns-then-base : goal.returns-then-base
+pub returns-in-Some : goal.returns-in-Some
 unfolding under_bytes bucket_bytes empty
-returns-then-base c = let a = c.args in
+returns-in-Some c = let a = c.args in
     let d = device a.flash.now a.spare.now a.disk.now in
-    rw (c.if-base.true, ← same-merge-all a.z d a.list.now (bucket_bytes a.z d a.base.cache)) c.lay_within.ensures
+    rw (c.in-Some.is, ← same-merge-all a.z d a.list.now (bucket_bytes a.z d c.in-Some.copy.cache)) c.lay_within.ensures
 
 pub overflow_mul-from : goal.overflow_mul-from
 overflow_mul-from c = omega (arith, products c.requires.laid.limits)
@@ -85,5 +85,5 @@ returns c = let laid = c.requires.laid in
     let one_byte = mul-le-mul laid.limits.p_low laid.limits.s_low in
     let some : empty below ≡ false = empty-length below ∙ ne_eqb (length below) 0 (λ e. omega (arith, long, one_byte)) in
     let d = device a.flash.now a.spare.now a.disk.now in
-    rw (c.if-base.false, ← same-merge-all a.z d a.list.now (disk_bytes a.z d a.b))
+    rw (c.in_default.is, ← same-merge-all a.z d a.list.now (disk_bytes a.z d a.b))
     (rw (lent_part a.disk.now (a.b * size) size, some) at c.lay_within-2.ensures)

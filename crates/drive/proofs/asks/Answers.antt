@@ -5,20 +5,16 @@ use Rattle.drive.specs.Asking.{unmade, sizes_asked}
 use Rattle.drive.proofs.Requests.{other_request}
 use Rattle.drive.proofs.asks.Goals as goal
 
-pub returns-in-Bad : goal.returns-in-Bad
-unfolding unmade sizes_asked is_format
-returns-in-Bad c = rw c.in-Bad.is (refl, refl, refl)
-
 pub returns-in-Format : goal.returns-in-Format
 unfolding unmade sizes_asked is_format
-returns-in-Format c = rw c.in-Format.is (c.format_unmade-unmade.ensures, refl, refl)
+returns-in-Format c = rw c.in-Format.is (c.check_format-makes.ensures, refl, refl)
 
 pub returns-then-formatted : goal.returns-then-formatted
 returns-then-formatted c = let a = c.args in
-    let other = other_request a.formatted a.kept a.request c.in_default.not-Bad c.in_default.not-Format in
+    let other = other_request a.formatted a.kept a.request c.in_default.not-Format in
     rw (other.0, other.1, other.2, c.if-formatted.true) (refl, refl, refl)
 
 pub returns-else-formatted : goal.returns-else-formatted
 returns-else-formatted c = let a = c.args in
-    let other = other_request a.formatted a.kept a.request c.in_default.not-Bad c.in_default.not-Format in
+    let other = other_request a.formatted a.kept a.request c.in_default.not-Format in
     rw (other.0, other.1, other.2, c.if-formatted.false) (refl, refl, refl)

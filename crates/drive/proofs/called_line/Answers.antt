@@ -12,7 +12,7 @@ use Rattle.drive.proofs.called_line.Goals as goal
 pub make_in_arrays-made-requires : goal.make_in_arrays-made-requires
 make_in_arrays-made-requires c =
     let p = c.requires in
-    record { framed = asked_framed c.args.line.now p.line_value.0 p.line_value.1; most_read_in_bounds = p.arrays.1.buffer_room; arrays = (p.arrays.0, p.arrays.2) }
+    record { framed = asked_framed c.args.line.now p.line_value.1 p.line_value.0; most_read_in_bounds = p.arrays.1.buffer_room; arrays = (p.arrays.0, p.arrays.2) }
 
 pub slice_bounds-print-end : goal.slice_bounds-print-end
 slice_bounds-print-end c =

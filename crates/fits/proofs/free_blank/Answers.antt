@@ -1,6 +1,8 @@
-use mathlib.Core.Path.{◌≡◌, refl, sym, ◌∙◌}
+use mathlib.Core.Path.{refl, sym, ◌∙◌}
 use native.Mathlib.Omega.{arith}
-use borrow.Author.Rules.{rules}
+use Prim.Native.Nat.{ℕ, ◌<◌}
+use lib.ListN.{length-take}
+use lib.Seq.{take_all, get_or-take}
 use Rattle.lists.proofs.Arrays.{tested_more, take-used}
 use Rattle.lists.specs.Lists.{all}
 use Rattle.model.specs.Sizes.{body}
@@ -9,25 +11,19 @@ use Rattle.image.specs.Chip.{spare_only}
 use Rattle.state.proofs.Below.{bucket_below}
 use Rattle.fits.proofs.free_blank.Goals as goal
 
-pub loop-i-init : goal.loop-i-init
+pub loop-c-init : goal.loop-c-init
 unfolding all
-loop-i-init c = let q = c.args.free in
-    let u = c.used-n in
-    (search rules, search rules, search rules, rw (take-used u.result q.len q.items u.ensures.0) c.requires.free_value, refl)
+loop-c-init c = refl
 
-pub all_blank-clean-requires : goal.all_blank-clean-requires
-all_blank-clean-requires c = let l = c.loop-i in
-    let q = c.args in
-    record { chip = c.requires.chip; spare_value = c.requires.spare_value; c_bound = bucket_below (body q.z) c.used-n.result q.free.items l.i l.invariant.3 (omega arith) (omega arith) }
+pub all_blank-blank-requires-clause-c_bound : goal.all_blank-blank-requires-clause-c_bound
+all_blank-blank-requires-clause-c_bound c = let q = c.args.free in let n = c.used.result in let i = c.loop-c.c-index in
+    let within : i < n = omega (arith, length-take {A = ℕ}) in
+    rw (get_or-take n q.items i 0 within)
+    (bucket_below (body c.args.z) n q.items i (rw (take-used n q.len q.items c.used.ensures.0) c.requires.free_value) within (omega (arith, c.used.ensures.1)))
 
-pub loop-i-preserved : goal.loop-i-preserved
-loop-i-preserved c = let l = c.loop-i in
-    let q = c.args in
-    (search rules, l.invariant.1, l.invariant.2, l.invariant.3, rw (l.invariant.4, c.all_blank-clean.ensures) (sym (tested_more (all_blank q.z (spare_only q.spare.now)) l.i q.free.items 0 (omega arith))))
+pub loop-c-preserved : goal.loop-c-preserved
+loop-c-preserved c = let a = c.args in
+    rw (c.loop-c.invariant, c.all_blank-blank.ensures) (sym (tested_more (all_blank a.z (spare_only a.spare.now)) c.loop-c.c-index _ 0 (omega arith)))
 
 pub returns : goal.returns
-returns c = let l = c.loop-i in
-    let q = c.args.free in
-    let u = c.used-n in
-    let e : l.i ≡ u.result = omega arith in
-    l.invariant.4 ∙ rw (e, take-used u.result q.len q.items u.ensures.0)
+returns c = let q = c.args.free in c.loop-c.invariant ∙ rw (take_all c.loop-c.c-index _ c.loop-c-test.false, take-used c.used.result q.len q.items c.used.ensures.0)

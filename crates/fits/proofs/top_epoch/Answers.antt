@@ -4,4 +4,4 @@ use Rattle.fits.proofs.top_epoch.Goals as goal
 
 pub returns : goal.returns
 unfolding top_epoch
-returns c = c.larger.ensures ∙ rw (c.body_top-buckets.ensures, c.top_entry-entries.ensures)
+returns c = c.max.ensures ∙ rw (c.body_top-buckets.ensures, c.top_entry-entries.ensures)

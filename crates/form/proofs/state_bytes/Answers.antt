@@ -7,6 +7,7 @@ use lib.Dec.{leb}
 use lib.ListN.{length}
 use Rattle.state.specs.View.{view_of}
 use Rattle.form.specs.Form.{form_of, has_form}
+use Rattle.std.proofs.Common.{Some}
 use Rattle.form.proofs.state_bytes.Goals as goal
 
 pub returns-then-not-has_form : goal.returns-then-not-has_form
@@ -34,4 +35,4 @@ returns c = let s = c.args.s in
     let form : has_form (view_of s) ≡ true = sym had.value ∙ has in
     let size : length (form_of (view_of s)) ≡ c.form_size-size.result = ap (λ v. length (form_of v)) seen ∙ sym c.form_size-size.ensures in
     let room : leb (length (form_of (view_of s))) (length c.args.out.now) ≡ true = rw size (le-leb _ _ c.if-out-size.false) in
-    record { value = rw (form, room) (sym size); out_after = rw (form, room, seen) c.put_state.ensures; upper_bound = omega arith }
+    record { value = rw (form, room) (ap Some (sym size)); out_after = rw (form, room, seen) c.put_state.ensures; upper_bound = omega arith }

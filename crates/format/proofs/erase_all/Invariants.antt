@@ -1,4 +1,3 @@
-use Prim.Native.Nat.{◌-◌, ◌≤◌}
 use mathlib.Core.Path.{◌≡◌}
 use mathlib.Core.List.{map}
 use Rattle.lists.specs.Lists.{below}
@@ -8,8 +7,5 @@ use Rattle.meter.specs.Run.{running, run_all}
 use Rattle.format.proofs.erase_all.Given as goal
 
 abbrev pub invariant-loop-bucket : goal.invariant-loop-bucket
-invariant-loop-bucket l = (l.bucket ≤ l.c) × Lent l.z l.flash l.spare l.disk
+invariant-loop-bucket l = Lent l.z l.flash l.spare l.disk
     × (running l.flash l.spare l.disk l.run ≡ run_all l.z (map erase (below l.bucket)) (running l.initial.flash l.initial.spare l.initial.disk l.initial.run))
-
-abbrev pub decreases-loop-bucket : goal.decreases-loop-bucket
-decreases-loop-bucket l = l.c - l.bucket

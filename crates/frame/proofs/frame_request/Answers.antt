@@ -1,26 +1,25 @@
 -- `frame::frame_request` meets its contract: the operation is the first field of the walk, and the allowance the second.
-use Rattle.std.proofs.Common.{◌≡◌, arith, refl, ◌∙◌, sym}
-use Rattle.model.specs.Driving.{bytes_of}
-use Rattle.line.specs.Field.{field_at}
-use Rattle.frame.proofs.Asked.{format-walked, read-walked, write-walked, bare_walked}
+use Rattle.std.proofs.Common.{◌∙◌}
+use Rattle.frame.proofs.Asked.{format-walked, read-walked, write-walked, erase-walked, drain-walked, recover-walked, nothing-walked}
 use Rattle.frame.proofs.frame_request.Goals as goal
 
-pub returns-in-1 : goal.returns-in-1
-returns-in-1 c = let f = bytes_of c.args.text.now in
-    let o : c.next-operation.result.field ≡ field_at f 0 1 = rw (c.next-operation.ensures, c.start.ensures) refl in
-    c.format_request.ensures ∙ rw (c.next-allowance.ensures, c.next-operation.ensures, c.start.ensures) (format-walked f (sym o ∙ c.in-1.is))
+pub returns-in-Some-Format : goal.returns-in-Some-Format
+returns-in-Some-Format c = c.format_request.ensures ∙ format-walked c.start.ensures c.next-operation.ensures c.next-allowance.ensures (rw c.in-Some-Format.field-0-is at c.in-Some-Format.ensures)
 
-pub returns-in-2 : goal.returns-in-2
-returns-in-2 c = let f = bytes_of c.args.text.now in
-    let o : c.next-operation.result.field ≡ field_at f 0 1 = rw (c.next-operation.ensures, c.start.ensures) refl in
-    c.read_request.ensures ∙ rw (c.next-allowance.ensures, c.next-operation.ensures, c.start.ensures) (read-walked f (sym o ∙ c.in-2.is))
+pub returns-in-Some-Read : goal.returns-in-Some-Read
+returns-in-Some-Read c = c.read_request.ensures ∙ read-walked c.start.ensures c.next-operation.ensures c.next-allowance.ensures (rw c.in-Some-Read.field-0-is at c.in-Some-Read.ensures)
 
-pub returns-in-3 : goal.returns-in-3
-returns-in-3 c = let f = bytes_of c.args.text.now in
-    let o : c.next-operation.result.field ≡ field_at f 0 1 = rw (c.next-operation.ensures, c.start.ensures) refl in
-    c.write_request.ensures ∙ rw (c.next-allowance.ensures, c.next-operation.ensures, c.start.ensures) (write-walked f (sym o ∙ c.in-3.is))
+pub returns-in-Some-Write : goal.returns-in-Some-Write
+returns-in-Some-Write c = c.write_request.ensures ∙ write-walked c.start.ensures c.next-operation.ensures c.next-allowance.ensures (rw c.in-Some-Write.field-0-is at c.in-Some-Write.ensures)
 
-pub returns-in_default : goal.returns-in_default
-returns-in_default c = let f = bytes_of c.args.text.now in
-    let o : c.next-operation.result.field ≡ field_at f 0 1 = rw (c.next-operation.ensures, c.start.ensures) refl in
-    c.bare_request.ensures ∙ rw (c.next-allowance.ensures, c.next-operation.ensures, c.start.ensures) (bare_walked f (λ e. omega arith) (λ e. omega arith) (λ e. omega arith))
+pub returns-in-Some-EraseStep : goal.returns-in-Some-EraseStep
+returns-in-Some-EraseStep c = erase-walked c.start.ensures c.next-operation.ensures c.next-allowance.ensures (rw c.in-Some-EraseStep.field-0-is at c.in-Some-EraseStep.ensures)
+
+pub returns-in-Some-Drain : goal.returns-in-Some-Drain
+returns-in-Some-Drain c = drain-walked c.start.ensures c.next-operation.ensures c.next-allowance.ensures (rw c.in-Some-Drain.field-0-is at c.in-Some-Drain.ensures)
+
+pub returns-in-Some-Recover : goal.returns-in-Some-Recover
+returns-in-Some-Recover c = recover-walked c.start.ensures c.next-operation.ensures c.next-allowance.ensures (rw c.in-Some-Recover.field-0-is at c.in-Some-Recover.ensures)
+
+pub returns-in-None : goal.returns-in-None
+returns-in-None c = nothing-walked c.start.ensures c.next-operation.ensures c.next-allowance.ensures c.in-None.ensures

@@ -5,7 +5,7 @@ use Rattle.frame.proofs.request_of.Goals as goal
 
 pub returns-then-line_fits : goal.returns-then-line_fits
 unfolding request_of
-returns-then-line_fits c = c.frame_request.ensures ∙ rw (sym c.line_fits.ensures ∙ c.if-line_fits.true)
+returns-then-line_fits c = rw (c.frame_request.ensures, sym c.line_fits.ensures ∙ c.if-line_fits.true)
 
 pub returns-else-line_fits : goal.returns-else-line_fits
 unfolding request_of

@@ -1,12 +1,9 @@
-use Rattle.model.specs.State.{caches_of}
-use native.Mathlib.Omega.{arith}
 use mathlib.Core.Path.{sym, ◌∙◌}
+use Rattle.queue.proofs.Found.{found_some, found_none}
 use Rattle.gather.proofs.logs_of.Goals as goal
 
-pub returns-then-found : goal.returns-then-found
-unfolding caches_of
-returns-then-found c = (omega arith, rw (sym c.find-found.ensures.0 ∙ c.if-found.true, ← c.find-found.ensures.1))
+pub returns-in-Some : goal.returns-in-Some
+returns-in-Some c = (found_some _ _ _ (sym c.find.ensures ∙ c.in-Some.is)).caches
 
-pub returns : goal.returns
-unfolding caches_of
-returns c = (omega arith, rw (sym c.find-found.ensures.0 ∙ c.if-found.false))
+pub returns-in-None : goal.returns-in-None
+returns-in-None c = (found_none _ _ (sym c.find.ensures ∙ c.in-None.is)).caches

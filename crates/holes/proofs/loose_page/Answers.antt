@@ -1,16 +1,14 @@
 use Rattle.holes.proofs.First.{some_first}
 use Rattle.image.proofs.Place.{page_inside}
 use Rattle.image.specs.Chip.{spare_only}
-use Rattle.spare.specs.Fields.{fields}
 use Rattle.model.specs.Ledger.{first_tag, loose_fits}
 use Rattle.model.specs.Image.{shares, fields_fit, page_programmed}
-use Rattle.model.specs.Spare.{programmed, kind, epoch, back}
+use Rattle.model.specs.Spare.{programmed}
 use Rattle.model.specs.Stores.{tag_of}
 use Rattle.model.specs.Sizes.{page_index}
-use Rattle.lists.proofs.Tests.{or_left, every_three}
-use lib.Dec.{eqb}
+use Rattle.lists.proofs.Tests.{or_left}
 use native.Mathlib.Omega.{arith}
-use mathlib.Core.Bool.{Bool, true, not, ◌&&◌}
+use mathlib.Core.Bool.{true, not}
 use mathlib.Core.Path.{◌≡◌, sym, ap, ◌∙◌}
 use Rattle.holes.proofs.loose_page.Goals as goal
 
@@ -33,8 +31,8 @@ overflow_mul-c c = omega (arith, page_inside c.requires.chip c.requires.c_lt_c c
 pub overflow_add-c : goal.overflow_add-c
 overflow_add-c c = omega (arith, page_inside c.requires.chip c.requires.c_lt_c c.requires.speaks.inside)
 
-pub fields_at-g-requires : goal.fields_at-g-requires
-fields_at-g-requires c = page_inside c.requires.chip c.requires.c_lt_c c.requires.speaks.inside
+pub fields_at-head-requires : goal.fields_at-head-requires
+fields_at-head-requires c = page_inside c.requires.chip c.requires.c_lt_c c.requires.speaks.inside
 
 pub zeroed-zeroed-requires : goal.zeroed-zeroed-requires
 zeroed-zeroed-requires c = page_inside c.requires.chip c.requires.c_lt_c c.requires.k_lt_p
@@ -43,11 +41,11 @@ pub fields_fit-requires : goal.fields_fit-requires
 fields_fit-requires c = c.requires.chip.limits
 
 pub returns : goal.returns
-unfolding loose_fits shares page_programmed tag_of page_index fields
+unfolding loose_fits page_programmed tag_of page_index
 returns c = let a = c.args in let d = spare_only a.spare.now in
     let tag = tag_of a.z d a.c a.k in let first = tag_of a.z d a.c a.first in let speaks = c.requires.speaks in
     let p : programmed tag ≡ true = sym c.page_programmed.ensures ∙ c.if-not-page_programmed.false in
     let e : first_tag a.z d a.c ≡ first = speaks.is (sym speaks.tells ∙ some_first a.z d a.c a.k c.requires.k_lt_p p) in
     let fits : c.fields_fit.result ≡ fields_fit a.z tag = c.fields_fit.ensures tag (sym c.fields_at-f.ensures) (sym c.zeroed-zeroed.ensures) in
-    rw (p, fits, c.fields_at-f.ensures, c.fields_at-g.ensures, e)
-    (ap (λ (t : Bool). fields_fit a.z tag && t) (every_three (eqb (kind tag) (kind first)) (eqb (epoch tag) (epoch first)) (eqb (back tag) (back first))))
+    let shared : c.shares.result ≡ shares first tag = c.shares.ensures first tag (sym c.fields_at-head.ensures) (sym c.fields_at-f.ensures) in
+    rw (p, fits, shared, e)

@@ -14,5 +14,5 @@ kind_at-kind-requires c = let p = c.requires in first_inside p.chip p.c_lt_c
 
 pub returns : goal.returns
 unfolding programmed spoiled
-returns c = let s = c in let a = s.args in let d = spare_only a.spare.now in
-    rw (c.kind_at-kind.ensures ∙ ap kind (first_tag_lem a.z d a.c), c.ends_log.ensures, complete_first a.z d a.c s.requires.chip.limits s.requires.c_value, kind-blank a.z d a.c 0 s.requires.c_value s.requires.chip.limits.p_low)
+returns c = let a = c.args in let d = spare_only a.spare.now in
+    rw (c.programmed_kind.ensures, c.kind_at-kind.ensures ∙ ap kind (first_tag_lem a.z d a.c), c.ends_log.ensures, complete_first a.z d a.c c.requires.chip.limits c.requires.c_value, kind-blank a.z d a.c 0 c.requires.c_value c.requires.chip.limits.p_low)

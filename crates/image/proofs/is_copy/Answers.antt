@@ -6,5 +6,5 @@ use Rattle.image.proofs.is_copy.Goals as goal
 
 pub returns : goal.returns
 unfolding is_copy used programmed spoiled
-returns c = let s = c in let a = s.args in
-    rw (c.head_kind-kind.ensures, head-blank a.z (spare_only a.spare.now) a.c s.requires.chip.limits.p_low s.requires.c_value)
+returns c = let a = c.args in
+    rw (c.programmed_kind.ensures, c.head_kind-kind.ensures, head-blank a.z (spare_only a.spare.now) a.c c.requires.chip.limits.p_low c.requires.c_value)

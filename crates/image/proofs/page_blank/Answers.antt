@@ -1,17 +1,19 @@
-use Rattle.spare.proofs.Looked.{seen-blank, seen-spoiled, seen-programmed}
-use Rattle.model.proofs.Tags.{programmed_real, spoiled_real}
 use Rattle.model.specs.Image.{page_blank}
-use mathlib.Core.Path.{sym, ◌∙◌}
+use Rattle.model.specs.Sizes.{page_index}
+use Rattle.model.specs.Stores.{tag_of}
+use Rattle.image.proofs.Place.{page_inside}
+use native.Mathlib.Omega.{arith}
 use Rattle.image.proofs.page_blank.Goals as goal
 
-pub returns-in-Blank : goal.returns-in-Blank
-unfolding page_blank
-returns-in-Blank c = rw (seen-blank _ (sym c.page_seen-page.ensures ∙ c.in-Blank.is))
+pub overflow_mul-c : goal.overflow_mul-c
+overflow_mul-c c = omega (arith, page_inside c.requires.chip c.requires.c_lt_c c.requires.k_lt_p)
 
-pub returns-in-Spoiled : goal.returns-in-Spoiled
-unfolding page_blank
-returns-in-Spoiled c = rw (spoiled_real _ (seen-spoiled _ (sym c.page_seen-page.ensures ∙ c.in-Spoiled.is)))
+pub overflow_add-c : goal.overflow_add-c
+overflow_add-c c = omega (arith, page_inside c.requires.chip c.requires.c_lt_c c.requires.k_lt_p)
 
-pub returns-in-Programmed : goal.returns-in-Programmed
-unfolding page_blank
-returns-in-Programmed c = rw (programmed_real _ (seen-programmed _ _ (sym c.page_seen-page.ensures ∙ c.in-Programmed.is)).0).0
+pub blank_at-requires : goal.blank_at-requires
+blank_at-requires c = page_inside c.requires.chip c.requires.c_lt_c c.requires.k_lt_p
+
+pub returns : goal.returns
+unfolding page_blank tag_of page_index
+returns c = c.blank_at.ensures

@@ -3,11 +3,8 @@ use Rattle.model.specs.Stores.{tag_of}
 use Rattle.model.specs.Spare.{blank}
 use mathlib.Core.Bool.{false}
 use mathlib.Core.Path.{◌≡◌}
-use Prim.Native.Nat.{ℕ, ◌-◌, ◌≤◌, ◌<◌}
+use Prim.Native.Nat.{ℕ, ◌<◌}
 use Rattle.image.proofs.pages_used.Given as goal
 
 abbrev pub invariant-loop-k : goal.invariant-loop-k
-invariant-loop-k l = (l.k ≤ l.z.p) × ((j : ℕ) → j < l.k → blank (tag_of l.z (spare_only l.spare) l.c j) ≡ false)
-
-abbrev pub decreases-loop-k : goal.decreases-loop-k
-decreases-loop-k l = l.z.p - l.k
+invariant-loop-k l = (j : ℕ) → j < l.k → blank (tag_of l.z (spare_only l.spare) l.c j) ≡ false

@@ -7,7 +7,7 @@ use Rattle.lists.proofs.Turns.{all_more}
 use Rattle.lists.proofs.Tests.{and-true}
 use Rattle.lists.specs.Lists.{all_below}
 use native.Mathlib.Omega.{arith}
-use mathlib.Core.Path.{refl, sym, ◌∙◌}
+use mathlib.Core.Path.{◌≡◌, refl, sym, ◌∙◌}
 use Rattle.ledger.proofs.entered.Goals as goal
 
 pub overflow_mul-start : goal.overflow_mul-start
@@ -15,7 +15,7 @@ overflow_mul-start c = omega (arith, bucket_inside c.requires.chip c.args.l c.re
 
 pub loop-k-init : goal.loop-k-init
 unfolding all_below
-loop-k-init c = (omega arith, refl)
+loop-k-init c = refl
 
 pub overflow_add-start : goal.overflow_add-start
 overflow_add-start c = omega (arith, page_inside {k = c.loop-k.k} c.requires.chip c.requires.l_lt_c (omega arith))
@@ -25,11 +25,12 @@ is_taken-requires c = page_inside c.requires.chip c.requires.l_lt_c (omega arith
 
 pub returns-then-not-is_taken : goal.returns-then-not-is_taken
 unfolding taken tag_of page_index
-returns-then-not-is_taken c = (c.loop-k.invariant.0, c.loop-k.invariant.1, λ h. sym c.is_taken.ensures ∙ c.if-not-is_taken.true)
+returns-then-not-is_taken c = (omega arith, c.loop-k.invariant, λ h. sym c.is_taken.ensures ∙ c.if-not-is_taken.true)
 
 pub loop-k-preserved : goal.loop-k-preserved
 unfolding taken tag_of page_index
-loop-k-preserved c = let l = c.loop-k in let a = c.args in (omega arith, all_more l.k (taken a.z (spare_only a.spare.now) a.l) ∙ and-true l.invariant.1 (sym c.is_taken.ensures ∙ c.if-not-is_taken.false))
+loop-k-preserved c = let a = c.args in
+    all_more c.loop-k.k (taken a.z (spare_only a.spare.now) a.l) ∙ and-true c.loop-k.invariant (sym c.is_taken.ensures ∙ c.if-not-is_taken.false)
 
 pub returns : goal.returns
-returns c = (c.loop-k.invariant.0, c.loop-k.invariant.1, λ h. absurd (omega arith))
+returns c = let e : c.loop-k.k ≡ c.args.z.p = omega arith in (omega arith, rw e at c.loop-k.invariant, λ h. absurd (omega arith))

@@ -6,7 +6,7 @@ use Rattle.line.proofs.field_at.Goals as goal
 
 pub returns-then-width-eq1 : goal.returns-then-width-eq1
 unfolding field_at
-returns-then-width-eq1 c = c.byte_at-b.ensures ∙ rw c.if-width-eq1.true
+returns-then-width-eq1 c = rw c.from.ensures (c.byte_at.ensures ∙ rw c.if-width-eq1.true)
 
 pub returns-else-width-eq1 : goal.returns-else-width-eq1
 unfolding field_at

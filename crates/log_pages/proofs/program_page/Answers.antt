@@ -1,19 +1,29 @@
 use native.Mathlib.Omega.{arith}
-use Prim.Native.Nat.{◌*◌}
+use Rattle.std.proofs.Common.{ℕ, ap, ◌*◌, length, List}
+use Rattle.std.proofs.lemmas.List.{take_rest}
+use Rattle.lists.specs.Lists.{part}
 use Rattle.model.specs.Steps.{log_store}
-use Rattle.lists.proofs.Lent.{lent_part}
-use Rattle.log_pages.proofs.Pages.{small, page_begins, page_whole}
+use Rattle.log_pages.proofs.Pages.{page_begins, page_whole, page_laid}
+use Rattle.meter.specs.Run.{step, running}
+use Rattle.log_pages.specs.Logs.{store_of}
 use Rattle.log_pages.proofs.program_page.Goals as goal
 
-pub overflow_mul-from : goal.overflow_mul-from
-overflow_mul-from c = omega (arith, page_begins c.requires.fits.0 c.args.o c.requires.fits.1)
+pub slice_bounds-rest-count : goal.slice_bounds-rest-count
+slice_bounds-rest-count c = omega (arith, page_begins c.requires.fits.0 c.args.o c.requires.fits.1)
 
-pub overflow_add-to : goal.overflow_add-to
-overflow_add-to c = omega (arith, page_begins c.requires.fits.0 c.args.o c.requires.fits.1, (small c.requires.fits.0).bytes, c.requires.fits.0.limits.s_high)
+pub slice_bounds-rest-start : goal.slice_bounds-rest-start
+slice_bounds-rest-start c = omega (arith, page_begins c.requires.fits.0 c.args.o c.requires.fits.1)
 
-pub returns : goal.returns
-unfolding log_store
-returns c = let if1 = c.if-n-to in
+pub returns-then-z-rest-clause-result_after : goal.returns-then-z-rest-clause-result_after
+unfolding part log_store
+returns-then-z-rest-clause-result_after c =
     let a = c.args in
-    let stored = c.program_lent.ensures in
-    record { result_after = rw (stored.result_after, lent_part a.bytes.now (a.o * a.z.s) a.z.s, page_whole a.z a.bytes.now a.o (omega (arith, if1.false))); lent_2 = stored.lent_2 }
+    rw (c.program_lent.ensures.result_after, take_rest a.bytes.now (a.o * a.z.s), page_whole a.z a.bytes.now a.o (omega (arith, c.if-z-rest.true)))
+
+pub returns-clause-result_after : goal.returns-clause-result_after
+unfolding log_store
+returns-clause-result_after c =
+    let a = c.args in
+    rw (c.program_lent-2.ensures.result_after, c.copy_from_slice.ensures.after, take_rest a.bytes.now (a.o * a.z.s))
+    (ap (λ (page : List ℕ). step a.z (store_of a.z a.log (length a.bytes.now) a.o page) (running a.flash.now a.spare.now a.disk.now a.meter))
+    (page_laid a.z a.bytes.now a.o (omega (arith, c.if-z-rest.false)) c.requires.fits.0.limits.s_high))

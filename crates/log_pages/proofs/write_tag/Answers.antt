@@ -28,8 +28,8 @@ overflow_mul-at-2 c = omega (arith, inside c.args.spare.now c.requires)
 
 pub write_at-requires : goal.write_at-requires
 write_at-requires c = let a = c.args in
-    rw (c.encode-tag.ensures, c.page_fields-fields.ensures, tag-length a.z a.log a.n a.o) (inside a.spare.now c.requires)
+    rw (c.page_tag-tag.ensures, tag-length a.z a.log a.n a.o) (inside a.spare.now c.requires)
 
 pub returns : goal.returns
 unfolding page_index
-returns c = rw (c.write_at.ensures, c.encode-tag.ensures, c.page_fields-fields.ensures)
+returns c = rw (c.write_at.ensures, c.page_tag-tag.ensures)

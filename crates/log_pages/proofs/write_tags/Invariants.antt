@@ -1,4 +1,4 @@
-use Prim.Native.Nat.{◌-◌, ◌*◌, ◌≤◌}
+use Prim.Native.Nat.{◌*◌}
 use mathlib.Core.Path.{◌≡◌}
 use lib.ListN.{length}
 use Rattle.lists.specs.Lists.{splice}
@@ -7,8 +7,7 @@ use Rattle.log_pages.specs.Logs.{tags}
 use Rattle.log_pages.proofs.write_tags.Given as goal
 
 abbrev pub invariant-loop-o : goal.invariant-loop-o
-invariant-loop-o l = (l.o ≤ l.count) × (length l.spare ≡ length l.initial.spare)
-    × (l.spare ≡ splice l.initial.spare (page_index l.z l.log.bucket l.log.first * 16) (tags l.z l.log l.n l.o))
-
-abbrev pub decreases-loop-o : goal.decreases-loop-o
-decreases-loop-o l = l.count - l.o
+invariant-loop-o l = record {
+  size : length l.spare ≡ length l.initial.spare;
+  written : l.spare ≡ splice l.initial.spare (page_index l.z l.log.bucket l.log.first * 16) (tags l.z l.log l.n l.o);
+}

@@ -8,7 +8,7 @@ use Rattle.overlay.specs.Window.{chip}
 use lib.ListN.{length}
 use native.Mathlib.Omega.{arith}
 use Prim.Native.Nat.{ℕ, ◌-◌}
-use mathlib.Core.Path.{◌≡◌, refl, ap, ◌∙◌}
+use mathlib.Core.Path.{◌≡◌, ap, ◌∙◌}
 use mathlib.Core.List.{List}
 use Rattle.merge.proofs.merge_range.Goals as goal
 
@@ -18,18 +18,18 @@ pages_used-end-requires c = let s = c in let p = s.requires in
 
 pub loop-k-init : goal.loop-k-init
 unfolding merge_to
-loop-k-init c = (omega arith, omega (arith, c.pages_used-end.ensures), refl, λ base e shows. shows)
+loop-k-init c = λ base e shows. shows
 
 pub lay_page-requires : goal.lay_page-requires
-lay_page-requires c = let p = c.requires in record { readable = p.readable; c_bound = p.c_bound; k_lt_p = omega arith; window_bound = omega (arith, p.window_bound, c.loop-k.invariant.2) }
+lay_page-requires c = let p = c.requires in record { readable = p.readable; c_bound = p.c_bound; k_lt_p = omega (arith, c.pages_used-end.ensures); window_bound = omega (arith, p.window_bound) }
 
 pub loop-k-preserved : goal.loop-k-preserved
 loop-k-preserved c = let l = c.loop-k in
-    (omega arith, l.invariant.1, omega arith, λ base e shows. rw l.invariant.2 at (c.lay_page.ensures base e (rw l.invariant.2 (l.invariant.3 base e shows))))
+    λ base e shows. rw l.auto.window at (c.lay_page.ensures base e (rw l.auto.window (l.invariant base e shows)))
 
 pub returns : goal.returns
 unfolding merge
 returns c = λ base e shows.
     let l = c.loop-k in let s = c in
     let done : l.k ≡ s.args.z.p - blanks s.args.z (spare_only s.args.spare.now) s.args.c = omega (arith, c.pages_used-end.ensures) in
-    l.invariant.3 base e shows ∙ ap (λ (m : List ℕ). part m s.args.«from» (length s.args.window.now)) (ap (merge_to s.args.z (chip s.args.flash.now s.args.spare.now) s.args.c base) done ∙ merged-used s.requires.readable s.requires.c_bound base)
+    l.invariant base e shows ∙ ap (λ (m : List ℕ). part m s.args.«from» (length s.args.window.now)) (ap (merge_to s.args.z (chip s.args.flash.now s.args.spare.now) s.args.c base) done ∙ merged-used s.requires.readable s.requires.c_bound base)

@@ -17,41 +17,38 @@ use Rattle.recover.proofs.gather.Goals as goal
 
 pub loop-i-init : goal.loop-i-init
 unfolding picked
-loop-i-init c = let s = c in (omega arith, s.requires.column_len, search rules, omega (arith, s.requires.order_len_bound, c.used-n.ensures.0), omega arith, sym (append-nil _))
+loop-i-init c = (search rules, omega arith, sym (append-nil _))
 
 pub bounds-items-n : goal.bounds-items-n
 bounds-items-n c = let l = c.loop-i in let x = c.args in
-    omega (arith, l.invariant.3, l.invariant.4, picked_room x.column.now x.order.now l.i l.invariant.1 (omega (arith, l.invariant.1, c.loop-i-test.true)) (ap not (ne_eqb _ nowhere c.if-column-i.true)))
+    omega (arith, l.invariant.1, c.used-n.ensures.0, picked_room x.column.now x.order.now l.i c.requires.column_len (omega arith) (ap not (ne_eqb _ nowhere c.if-column-i.true)))
 
 pub overflow_add-n : goal.overflow_add-n
 overflow_add-n c = let l = c.loop-i in let x = c.args in
-    omega (arith, l.invariant.3, l.invariant.4, picked_room x.column.now x.order.now l.i l.invariant.1 (omega (arith, l.invariant.1, c.loop-i-test.true)) (ap not (ne_eqb _ nowhere c.if-column-i.true)))
+    omega (arith, l.invariant.1, c.used-n.ensures.0, picked_room x.column.now x.order.now l.i c.requires.column_len (omega arith) (ap not (ne_eqb _ nowhere c.if-column-i.true)))
 
 pub loop-i-preserved : goal.loop-i-preserved
 loop-i-preserved c = let l = c.loop-i in let x = c.args in
     let m = x.column.now in
     let o = x.order.now in
-    let inside : l.i < length m = omega (arith, l.invariant.1, c.loop-i-test.true) in
+    let inside : l.i < length m = omega arith in
     let done = picked (take l.i m) (take l.i o) in
     elim c.if-column-i.branch [
       | then-column-i w ↦ let named : is_named (get_or m l.i 0) ≡ true = ap not (ne_eqb (get_or m l.i 0) nowhere w.if-column-i.true) in
-          let more = picked_more m o l.i l.invariant.1 inside true named in
-          let room = picked_room m o l.i l.invariant.1 inside named in
-          let fits : l.n < length l.items = omega (arith, l.invariant.2, l.invariant.3, l.invariant.4) in (
-            omega arith,
-            l.invariant.1,
-            ap length w.items-is ∙ length-set l.items l.n _ ∙ l.invariant.2,
-            l.invariant.3,
-            rw more (omega (arith, w.n-is, l.invariant.4, length-append done (get_or o l.i 0 ∷ []))),
-            rw (w.n-is, w.items-is, add-one l.n, take-suc-set l.items l.n (get_or o l.i 0) fits, more, l.invariant.5) (append_assoc (take c.used-n.result x.list.items) done (get_or o l.i 0 ∷ [])),
+          let more = picked_more m o l.i c.requires.column_len inside true named in
+          let room = picked_room m o l.i c.requires.column_len inside named in
+          let fits : l.n < length l.items = omega (arith, l.invariant.0, l.invariant.1, c.used-n.ensures.0) in (
+            ap length w.items-is ∙ length-set l.items l.n _ ∙ l.invariant.0,
+            rw more (omega (arith, w.n-is, l.invariant.1, length-append done (get_or o l.i 0 ∷ []))),
+            rw (w.n-is, w.items-is, add-one l.n, take-suc-set l.items l.n (get_or o l.i 0) fits, more, l.invariant.2) (append_assoc (take c.used-n.result x.list.items) done (get_or o l.i 0 ∷ [])),
           )
       | else-column-i w ↦ let none : is_named (get_or m l.i 0) ≡ false = ap not (eq-eqb (get_or m l.i 0) nowhere w.if-column-i.false) in
-          let same = picked_more m o l.i l.invariant.1 inside false none ∙ append-nil done in
-          (omega arith, l.invariant.1, ap length w.items-is ∙ l.invariant.2, l.invariant.3, rw same (omega (arith, w.n-is, l.invariant.4)), rw (same, w.n-is, w.items-is) l.invariant.5)
+          let same = picked_more m o l.i c.requires.column_len inside false none ∙ append-nil done in
+          (ap length w.items-is ∙ l.invariant.0, rw same (omega (arith, w.n-is, l.invariant.1)), rw (same, w.n-is, w.items-is) l.invariant.2)
     ]
 
 pub returns : goal.returns
-returns c = let l = c.loop-i in let x = c.args in let u = c.used-n in
-    let all : take l.i x.order.now ≡ x.order.now = take_all l.i x.order.now (omega arith) in
-    let whole : take l.i x.column.now ≡ x.column.now = take_all l.i x.column.now (omega (arith, l.invariant.1)) in
-    l.invariant.5 ∙ rw (all, whole, take-used u.result x.list.len x.list.items u.ensures.0)
+returns c = let i = c.loop-i.i in let x = c.args in
+    let all : take i x.order.now ≡ x.order.now = take_all i x.order.now (omega arith) in
+    let whole : take i x.column.now ≡ x.column.now = take_all i x.column.now (omega arith) in
+    c.loop-i.invariant.2 ∙ rw (all, whole, take-used c.used-n.result x.list.len x.list.items c.used-n.ensures.0)

@@ -1,4 +1,4 @@
-use Prim.Native.Nat.{◌+◌, ◌≤◌, ◌-◌}
+use Prim.Native.Nat.{◌+◌}
 use Rattle.recover.specs.Kept.{picked}
 use lib.ListN.{length, take}
 use mathlib.Core.List.{◌++◌}
@@ -6,7 +6,4 @@ use mathlib.Core.Path.{◌≡◌}
 use Rattle.recover.proofs.gather.Given as goal
 
 abbrev pub invariant-loop-i : goal.invariant-loop-i
-invariant-loop-i l = (l.i ≤ length l.order) × (length l.column ≡ length l.order) × (length l.items ≡ 256) × (l.initial.n + length (picked l.column l.order) ≤ 256) × (l.n ≡ l.initial.n + length (picked (take l.i l.column) (take l.i l.order))) × (take l.n l.items ≡ take l.initial.n l.initial.items ++ picked (take l.i l.column) (take l.i l.order))
-
-abbrev pub decreases-loop-i : goal.decreases-loop-i
-decreases-loop-i l = length l.order - l.i
+invariant-loop-i l = (length l.items ≡ 256) × (l.n ≡ l.initial.n + length (picked (take l.i l.column) (take l.i l.order))) × (take l.n l.items ≡ take l.initial.n l.initial.items ++ picked (take l.i l.column) (take l.i l.order))

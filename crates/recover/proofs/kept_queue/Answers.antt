@@ -21,24 +21,26 @@ use Rattle.recover.proofs.kept_queue.Goals as goal
 
 pub loop-i-init : goal.loop-i-init
 unfolding differing
-loop-i-init c = let s = c in (omega arith, s.requires.column_len.0, s.requires.column_len.1, search (rules, length_mapped), s.requires.order_len_bound, refl, refl)
+loop-i-init c = (search (rules, length_mapped), refl, refl)
 
 pub entry_of-requires : goal.entry_of-requires
 unfolding is_below
-entry_of-requires c = let s = c in let l = c.loop-i in
-    record { chip = s.requires.chip; c_lt_c = on_chip s.args.z (get_or s.args.order.now l.i 0) (ltb-true _ (body s.args.z) (all_at (is_below (body s.args.z)) s.args.order.now s.requires.order_value l.i 0 c.loop-i-test.true)) }
+entry_of-requires c = let x = c.args in let i = c.loop-i.i in record {
+  chip = c.requires.chip;
+  c_lt_c = on_chip x.z (get_or x.order.now i 0) (ltb-true _ (body x.z) (all_at (is_below (body x.z)) x.order.now c.requires.order_value i 0 (omega arith)));
+}
 
 pub offset_bounds-items-n : goal.offset_bounds-items-n
 offset_bounds-items-n c = let l = c.loop-i in let x = c.args in
-    omega (arith, l.invariant.4, l.invariant.5, differing_room x.column.now x.dropped.now x.order.now l.i l.invariant.1 l.invariant.2 c.loop-i-test.true (ne_eqb _ _ c.if-column-i.true))
+    omega (arith, l.invariant.1, differing_room x.column.now x.dropped.now x.order.now l.i c.requires.column_len.0 c.requires.column_len.1 (omega arith) (ne_eqb _ _ c.if-column-i.true))
 
 pub bounds-items-n : goal.bounds-items-n
 bounds-items-n c = let l = c.loop-i in let x = c.args in
-    omega (arith, l.invariant.4, l.invariant.5, differing_room x.column.now x.dropped.now x.order.now l.i l.invariant.1 l.invariant.2 c.loop-i-test.true (ne_eqb _ _ c.if-column-i.true))
+    omega (arith, l.invariant.1, differing_room x.column.now x.dropped.now x.order.now l.i c.requires.column_len.0 c.requires.column_len.1 (omega arith) (ne_eqb _ _ c.if-column-i.true))
 
 pub overflow_add-n : goal.overflow_add-n
 overflow_add-n c = let l = c.loop-i in let x = c.args in
-    omega (arith, l.invariant.4, l.invariant.5, differing_room x.column.now x.dropped.now x.order.now l.i l.invariant.1 l.invariant.2 c.loop-i-test.true (ne_eqb _ _ c.if-column-i.true))
+    omega (arith, l.invariant.1, differing_room x.column.now x.dropped.now x.order.now l.i c.requires.column_len.0 c.requires.column_len.1 (omega arith) (ne_eqb _ _ c.if-column-i.true))
 
 pub loop-i-preserved : goal.loop-i-preserved
 loop-i-preserved c = let l = c.loop-i in let x = c.args in
@@ -46,26 +48,22 @@ loop-i-preserved c = let l = c.loop-i in let x = c.args in
     let n = x.dropped.now in
     let o = x.order.now in
     let f = entry_of x.z (spare_only x.spare.now) x.counted in
-    let inside : l.i < length o = c.loop-i-test.true in
+    let inside : l.i < length o = omega arith in
     let done = differing (take l.i m) (take l.i n) (take l.i o) in
     elim c.if-column-i.branch [
       | then-column-i w ↦ let differ = ne_eqb (get_or m l.i 0) (get_or n l.i 0) w.if-column-i.true in
-          let more = differing_more m n o l.i l.invariant.1 l.invariant.2 inside false differ in
-          let room = differing_room m n o l.i l.invariant.1 l.invariant.2 inside differ in
-          let fits : l.n < length l.items = omega (arith, l.invariant.3, l.invariant.4, l.invariant.5) in (
-            omega arith,
-            l.invariant.1,
-            l.invariant.2,
-            ap length w.items-is ∙ length-set l.items l.n _ ∙ l.invariant.3,
-            l.invariant.4,
-            rw more (omega (arith, w.n-is, l.invariant.5, length-append done (get_or o l.i 0 ∷ []))),
-            rw (w.n-is, w.items-is, add-one l.n, take-suc-set l.items l.n w.entry_of.result fits, more, l.invariant.6, w.entry_of.ensures) (sym (map_append f done (get_or o l.i 0 ∷ []))),
+          let more = differing_more m n o l.i c.requires.column_len.0 c.requires.column_len.1 inside false differ in
+          let room = differing_room m n o l.i c.requires.column_len.0 c.requires.column_len.1 inside differ in
+          let fits : l.n < length l.items = omega (arith, l.invariant.0, l.invariant.1) in (
+            ap length w.items-is ∙ length-set l.items l.n _ ∙ l.invariant.0,
+            rw more (omega (arith, w.n-is, l.invariant.1, length-append done (get_or o l.i 0 ∷ []))),
+            rw (w.n-is, w.items-is, add-one l.n, take-suc-set l.items l.n w.entry_of.result fits, more, l.invariant.2, w.entry_of.ensures) (sym (map_append f done (get_or o l.i 0 ∷ []))),
           )
       | else-column-i w ↦ let alike = eq-eqb (get_or m l.i 0) (get_or n l.i 0) w.if-column-i.false in
-          let same = differing_more m n o l.i l.invariant.1 l.invariant.2 inside true alike ∙ append-nil done in
-          (omega arith, l.invariant.1, l.invariant.2, ap length w.items-is ∙ l.invariant.3, l.invariant.4, rw same (omega (arith, w.n-is, l.invariant.5)), rw (same, w.items-is, w.n-is) l.invariant.6)
+          let same = differing_more m n o l.i c.requires.column_len.0 c.requires.column_len.1 inside true alike ∙ append-nil done in
+          (ap length w.items-is ∙ l.invariant.0, rw same (omega (arith, w.n-is, l.invariant.1)), rw (same, w.items-is, w.n-is) l.invariant.2)
     ]
 
 pub returns : goal.returns
-returns c = let l = c.loop-i in let x = c.args in
-    l.invariant.6 ∙ rw (take_all l.i x.column.now (omega (arith, l.invariant.1)), take_all l.i x.dropped.now (omega (arith, l.invariant.2)), take_all l.i x.order.now (omega arith))
+returns c = let i = c.loop-i.i in let x = c.args in
+    c.loop-i.invariant.2 ∙ rw (take_all i x.column.now (omega arith), take_all i x.dropped.now (omega arith), take_all i x.order.now (omega arith))

@@ -1,8 +1,7 @@
 use mathlib.Core.List.{List, ◌++◌, append_assoc}
-use Rattle.recover.proofs.Queues.{column_again, column_fits, spent, old_copies, dropped_copies, dropped_writes, gc_fits, gc_is, picked_old, picked_copies, picked_writes}
+use Rattle.recover.proofs.Queues.{column_again, column_fits, again-length, room-fits, room-length, column-length, spent, old_copies, dropped_copies, dropped_writes, gc_fits, gc_is, picked_old, picked_copies, picked_writes}
 use Rattle.recover.specs.Kept.{picked}
-use Rattle.classes.proofs.Orders.{order_short}
-use Rattle.classes.specs.Columns.{in_order, named, column}
+use Rattle.classes.specs.Columns.{in_order, column}
 use Rattle.fifo.specs.View.{list_of}
 use Rattle.image.specs.Chip.{spare_only}
 use Rattle.model.proofs.Formed.{Formed, formed_of}
@@ -12,21 +11,12 @@ use Rattle.model.specs.Sizes.{Device}
 use Rattle.model.specs.Recover.{is_dropped_write, is_dropped_copy, is_old_copy}
 use mathlib.Core.Bool.{Bool}
 use mathlib.Core.Path.{◌≡◌, sym, ap, ◌∙◌}
-use Prim.Native.Nat.{ℕ, ◌≤◌}
+use Prim.Native.Nat.{ℕ}
 use native.Mathlib.Omega.{arith}
-use lib.Seq.{length-take-le}
-use lib.ListN.{length, take, drop, length-append, length-map}
+use lib.ListN.{length, take, drop, length-append}
 use Rattle.recover.proofs.retired.Goals as goal
 
 module _ (z : Sizes) (d : Device) {order : List ℕ} (order_is : order ≡ in_order z d) where
-  -- the order has a place in a column
-  short : Limits z → length order ≤ 256
-  short limits = omega (arith, ap length order_is, order_short z d, limits.ledger_in, limits.c_high)
-
-  -- and a column is as long as the order
-  beside : (t : ℕ → Bool) → length (column z d t) ≡ length order
-  beside t = length-map (in_order z d) (named z d t) ∙ sym (ap length order_is)
-
   -- what a column picks of the order
   listed : (t : ℕ → Bool) → picked (column z d t) order ≡ picked (column z d t) (in_order z d)
   listed t = ap (picked (column z d t)) order_is
@@ -46,12 +36,10 @@ module _ (z : Sizes) (d : Device) {order : List ℕ} (order_is : order ≡ in_or
     writes-listed e = ap (λ (l : List ℕ). picked l order) e ∙ listed (is_dropped_write z d) ∙ picked_writes z d limits formed
 
 pub slice_bounds-old-end : goal.slice_bounds-old-end
-slice_bounds-old-end c = let q = c.requires in
-    omega (arith, c.blank_column-old.ensures, short c.args.z (spare_only c.args.spare.now) q.order_value q.chip.limits)
+slice_bounds-old-end c = room-fits c.args.z (spare_only c.args.spare.now) c.requires.chip.limits c.requires.order_value _ c.blank_column-old.ensures
 
 pub slice_bounds-old_column-end : goal.slice_bounds-old_column-end
-slice_bounds-old_column-end c = let q = c.requires in
-    sym (length-take-le (length c.args.order.now) c.blank_column-old.result (omega (arith, c.blank_column-old.ensures, short c.args.z (spare_only c.args.spare.now) q.order_value q.chip.limits)))
+slice_bounds-old_column-end c = sym (room-length c.args.z (spare_only c.args.spare.now) c.requires.chip.limits c.requires.order_value _ c.blank_column-old.ensures)
 
 pub old_column-requires : goal.old_column-requires
 old_column-requires c = let q = c.requires in record {
@@ -59,7 +47,7 @@ old_column-requires c = let q = c.requires in record {
   spare_value = q.spare_value;
   order_value = q.order_value;
   copies_value = q.copies_value.0;
-  out_len = length-take-le (length c.args.order.now) c.blank_column-old.result (omega (arith, c.blank_column-old.ensures, short c.args.z (spare_only c.args.spare.now) q.order_value q.chip.limits));
+  out_len = room-length c.args.z (spare_only c.args.spare.now) q.chip.limits q.order_value _ c.blank_column-old.ensures;
 }
 
 pub slice_bounds-old-end-2 : goal.slice_bounds-old-end-2
@@ -67,15 +55,15 @@ slice_bounds-old-end-2 c = let z = c.args.z in let d = spare_only c.args.spare.n
     column_fits z d (is_old_copy z d) c.requires.order_value c.blank_column-old.result c.old_column.ensures
 
 pub slice_bounds-gather-end : goal.slice_bounds-gather-end
-slice_bounds-gather-end c = let z = c.args.z in let d = spare_only c.args.spare.now in let o = c.requires.order_value in
-    sym (ap length (column_again z d (is_old_copy z d) o c.blank_column-old.result c.old_column.ensures) ∙ beside z d o (is_old_copy z d))
+slice_bounds-gather-end c = let z = c.args.z in let d = spare_only c.args.spare.now in
+    sym (again-length z d (is_old_copy z d) c.requires.order_value c.blank_column-old.result c.old_column.ensures)
 
 pub gather-first-requires : goal.gather-first-requires
 gather-first-requires c = let q = c.requires in let z = c.args.z in let d = spare_only c.args.spare.now in let o = q.order_value in
     let old = column_again z d (is_old_copy z d) o c.blank_column-old.result c.old_column.ensures in
     let first = ap (λ (l : List ℕ). length (picked l c.args.order.now)) old ∙ ap length (listed z d o (is_old_copy z d)) ∙ ap length (picked_old z d q.chip.limits (formed_of z d q.spare_value)) in
     record {
-      column_len = ap length old ∙ beside z d o (is_old_copy z d);
+      column_len = again-length z d (is_old_copy z d) o c.blank_column-old.result c.old_column.ensures;
       order_len_bound = omega (arith, ap length c.buckets-spent.ensures, first, gc_fits z d, q.chip.limits.ledger_in, q.chip.limits.c_high);
     }
 
@@ -84,7 +72,7 @@ gather-second-requires c = let q = c.requires in let z = c.args.z in let d = spa
     let formed = formed_of z d q.spare_value in
     let first = first_is z d o q.chip.limits formed c.old_column.ensures c.blank_column-old.result c.buckets-spent.ensures c.gather-first.ensures in
     record {
-      column_len = ap length q.copies_value.1 ∙ beside z d o (is_dropped_copy z d);
+      column_len = column-length z d (is_dropped_copy z d) o q.copies_value.1;
       order_len_bound = omega (arith, ap length first, length-append (spent z d) (old_copies z d), ap length (copies-listed z d o q.chip.limits formed q.copies_value.1), gc_fits z d, q.chip.limits.ledger_in, q.chip.limits.c_high);
     }
 
@@ -93,7 +81,7 @@ gather-requires c = let q = c.requires in let z = c.args.z in let d = spare_only
     let formed = formed_of z d q.spare_value in
     let first = first_is z d o q.chip.limits formed c.old_column.ensures c.blank_column-old.result c.buckets-spent.ensures c.gather-first.ensures in
     record {
-      column_len = ap length q.dropped_writes_value ∙ beside z d o (is_dropped_write z d);
+      column_len = column-length z d (is_dropped_write z d) o q.dropped_writes_value;
       order_len_bound = omega (
         arith,
         ap length c.gather-second.ensures,

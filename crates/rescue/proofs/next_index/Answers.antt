@@ -1,4 +1,6 @@
+use mathlib.Core.Path.{◌≡◌}
 use native.Mathlib.Omega.{arith}
+use lib.ListN.{length}
 use borrow.Author.Tests.{ne_eqb}
 use Rattle.rescue.proofs.Places.{passed_one}
 use Rattle.rescue.proofs.next_index.Goals as goal
@@ -15,4 +17,6 @@ loop-at-preserved c = let x = c.args in
     passed_one x.x x.column.now l.invariant c.loop-at-test.true (ne_eqb _ _ c.if-x-column.false)
 
 pub returns : goal.returns
-returns c = (c.loop-at.invariant, λ h. absurd (omega arith))
+returns c =
+    let end : c.loop-at.at ≡ length c.args.column.now = omega (arith, c.loop-at.invariant.high) in
+    (rw end at c.loop-at.invariant, λ h. absurd (omega arith))

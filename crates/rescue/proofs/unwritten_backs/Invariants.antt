@@ -1,4 +1,3 @@
-use Prim.Native.Nat.{◌≤◌, ◌-◌}
 use mathlib.Core.Path.{◌≡◌}
 use mathlib.Core.List.{map}
 use lib.ListN.{length, take}
@@ -8,7 +7,4 @@ use Rattle.rescue.specs.Beside.{is_unwritten}
 use Rattle.rescue.proofs.unwritten_backs.Given as goal
 
 abbrev pub invariant-loop-i : goal.invariant-loop-i
-invariant-loop-i l = (l.i ≤ length l.order) × (take l.i l.unwritten ≡ map (named l.z (spare_only l.spare) (is_unwritten l.z (spare_only l.spare))) (take l.i l.order)) × (length l.unwritten ≡ 256)
-
-abbrev pub decreases-loop-i : goal.decreases-loop-i
-decreases-loop-i l = length l.order - l.i
+invariant-loop-i l = (take l.i l.unwritten ≡ map (named l.z (spare_only l.spare) (is_unwritten l.z (spare_only l.spare))) (take l.i l.order)) × (length l.unwritten ≡ 256)

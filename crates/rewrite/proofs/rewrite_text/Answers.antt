@@ -7,42 +7,44 @@ use lib.ListN.{take}
 use lib.Seq.{length-take-le}
 use Rattle.lists.specs.Lists.{part}
 use Rattle.model.specs.Sizes.{flash_size, spare_size, bucket_size}
+use Rattle.model.specs.Tests.{number_of}
+use Rattle.model.proofs.Refusals.{refused_lem}
 use Rattle.model.specs.Driving.{bytes_of, shown}
 use Rattle.model.proofs.Limits.{limits_of}
 use Rattle.geometry.proofs.Passed.{products}
 use Rattle.rewrite.proofs.Output.{printed, few_lines, fault_shown, text_shown}
 use Rattle.rewrite.proofs.rewrite_text.Goals as goal
 
-pub first_fault-fault-requires : goal.first_fault-fault-requires
-first_fault-fault-requires c = limits_of _ c.requires.z_value.0
+pub first_fault-requires : goal.first_fault-requires
+first_fault-requires c = limits_of _ c.requires.z_value.0
 
 pub overflow_add-fault : goal.overflow_add-fault
 unfolding part
 overflow_add-fault c =
     let a = c.args in
     let given = part a.text.now a.from (a.end - a.from) in
-    omega (arith, c.first_fault-fault.ensures.1, few_lines a.z given (limits_of _ c.requires.z_value.0))
+    omega (arith, c.in-Err.ensures.1, few_lines a.z given (limits_of _ c.requires.z_value.0))
 
 pub show-requires : goal.show-requires
 unfolding part
 show-requires c =
     let a = c.args in
     let given = part a.text.now a.from (a.end - a.from) in record {
-      stores_bound = omega (arith, c.first_fault-fault.ensures.1, few_lines a.z given (limits_of _ c.requires.z_value.0));
+      stores_bound = omega (arith, c.in-Err.ensures.1, few_lines a.z given (limits_of _ c.requires.z_value.0));
       bytes_in_bounds = omega (arith, c.requires.text_len.0);
     }
 
-pub returns-then-fault-ne0 : goal.returns-then-fault-ne0
+pub returns-in-Err : goal.returns-in-Err
 unfolding part
-returns-then-fault-ne0 c =
+returns-in-Err c =
     let a = c.args in
     let l = a.text.now in
     let given = part l a.from (a.end - a.from) in
-    let fault = c.first_fault-fault in
+    let fault = c.in-Err.fault in
     let show = c.show in
-    let p = printed (shown fault.result.number (fault.result.before + 2) []) l show.new.out show.result show.ensures.0 show.ensures.1 in
-    let faulty = fault_shown a.z given (bytes_of (take 18 l)) fault.result.number fault.result.before fault.ensures.0 fault.ensures.1 c.if-fault-ne0.true in
-    (p.0, p.1 ∙ faulty)
+    let p = printed (shown c.number.result (fault.before + 2) []) l show.new.out show.result show.ensures.0 show.ensures.1 in
+    let faulty = fault_shown a.z given (bytes_of (take 18 l)) (number_of fault.refusal) fault.before c.in-Err.ensures.0 c.in-Err.ensures.1 (refused_lem fault.refusal) in
+    (p.0, p.1 ∙ rw c.number.ensures faulty)
 
 pub overflow_mul-data : goal.overflow_mul-data
 overflow_mul-data c = omega (arith, (products (limits_of _ c.requires.z_value.0)).bucket)
@@ -83,7 +85,7 @@ write_again-requires c =
         length-take-le _ _ (omega (arith, (products (limits_of _ p.0)).pages, p.3)),
       );
       text_len = c.requires.text_len;
-      from_value = sym c.first_fault-fault.ensures.0 ∙ c.if-fault-ne0.false;
+      from_value = sym c.in_default.ensures.0;
     }
 
 pub returns : goal.returns
@@ -92,5 +94,5 @@ returns c =
     let a = c.args in
     let l = a.text.now in
     let e = c.write_again.ensures in
-    let none = sym c.first_fault-fault.ensures.0 ∙ c.if-fault-ne0.false in
+    let none = sym c.in_default.ensures.0 in
     (e.0, e.1 ∙ text_shown a.z (part l a.from (a.end - a.from)) (bytes_of (take 18 l)) none)

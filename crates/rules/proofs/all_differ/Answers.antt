@@ -15,22 +15,15 @@ more items slots i j all last (no n) h = all (omega arith)
 pub fill_slots-requires : goal.fill_slots-requires
 fill_slots-requires c = c.requires
 
-pub loop-i-init : goal.loop-i-init
-loop-i-init c = (omega arith, λ j h. absurd (omega arith))
-
 pub stands_alone-requires : goal.stands_alone-requires
 stands_alone-requires c = record { len_bound = c.requires; i_in_bounds = c.loop-i-test.true }
 
 pub returns-then-not-stands_alone : goal.returns-then-not-stands_alone
-returns-then-not-stands_alone c = let start = c in
-    let l = c.loop-i in
-    sym (not_alone start.args.items.now l.i (omega arith) (c.stands_alone.ensures.1 (c.if-not-stands_alone.true)))
+returns-then-not-stands_alone c = sym (not_alone c.args.items.now c.loop-i.i (omega arith) (c.stands_alone.ensures.1 c.if-not-stands_alone.true))
 
 pub loop-i-preserved : goal.loop-i-preserved
-loop-i-preserved c = let start = c in
-    let l = c.loop-i in
-    (omega arith, λ j h. more start.args.items.now c.fill_slots.new.slots l.i j (l.invariant.1 j) (c.stands_alone.ensures.0 (c.if-not-stands_alone.false)) (ℕ_discrete j l.i) h)
+loop-i-preserved c = let i = c.loop-i.i in
+    λ j h. more c.args.items.now c.fill_slots.new.slots i j (c.loop-i.invariant j) (c.stands_alone.ensures.0 c.if-not-stands_alone.false) (ℕ_discrete j i) h
 
 pub returns : goal.returns
-returns c = let l = c.loop-i in
-    sym (alone_distinct c.args.items.now c.fill_slots.new.slots (λ j h. l.invariant.1 j (omega arith)))
+returns c = sym (alone_distinct c.args.items.now c.fill_slots.new.slots (λ j h. c.loop-i.invariant j (omega arith)))

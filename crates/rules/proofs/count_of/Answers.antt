@@ -4,26 +4,28 @@ use Rattle.lists.specs.Lists.{times}
 use lib.Seq.{take_all}
 use lib.ListN.{take, get_or}
 use mathlib.Core.List.{[], ◌∷◌}
-use mathlib.Core.Path.{refl, sym, ap, ◌∙◌}
-use Prim.Native.Nat.{ℕ}
+use mathlib.Core.Path.{◌≡◌, refl, sym, ap, ◌∙◌}
+use Prim.Native.Nat.{ℕ, ◌+◌}
 use native.Mathlib.Omega.{arith}
 use Rattle.rules.proofs.count_of.Goals as goal
+use Rattle.rules.proofs.count_of.Goals.{then-x-y, else-x-y}
 
-pub loop-i-init : goal.loop-i-init
+pub loop-y-init : goal.loop-y-init
 unfolding times
-loop-i-init c = (omega arith, omega arith, refl)
+loop-y-init c = (omega arith, refl)
 
 pub overflow_add-n : goal.overflow_add-n
 overflow_add-n c = omega (arith, c.requires)
 
-pub loop-i-preserved-then-x-y : goal.loop-i-preserved-then-x-y
-loop-i-preserved-then-x-y c = let l = c.loop-i in let a = c.args in
-    let one = ap (λ (v : ℕ). times a.x (v ∷ [])) (sym c.if-x-y.true) ∙ times_self a.x in
-    (omega arith, omega arith, omega (arith, l.invariant.2, ap (times a.x) (done_more l.i a.items.now 0 (omega arith)), times_append a.x (take l.i a.items.now) (get_or a.items.now l.i 0 ∷ []), one))
-
-pub loop-i-preserved : goal.loop-i-preserved
-loop-i-preserved c = let l = c.loop-i in let a = c.args in
-    (omega arith, omega arith, omega (arith, l.invariant.2, ap (times a.x) (done_more l.i a.items.now 0 (omega arith)), times_append a.x (take l.i a.items.now) (get_or a.items.now l.i 0 ∷ []), times_other a.x (get_or a.items.now l.i 0) c.if-x-y.false))
+pub loop-y-preserved : goal.loop-y-preserved
+loop-y-preserved c = let l = c.loop-y in let a = c.args in
+    let here = get_or a.items.now l.y-index 0 in
+    let grown : times a.x (take (l.y-index + 1) a.items.now) ≡ times a.x (take l.y-index a.items.now) + times a.x (here ∷ []) =
+    ap (times a.x) (done_more l.y-index a.items.now 0 (omega arith)) ∙ times_append a.x (take l.y-index a.items.now) (here ∷ []) in
+    elim c.if-x-y.branch [
+      | then-x-y w ↦ (omega (arith, w.n-is), omega (arith, w.n-is, l.invariant.1, grown, ap (λ (v : ℕ). times a.x (v ∷ [])) (sym w.if-x-y.true) ∙ times_self a.x))
+      | else-x-y w ↦ (omega (arith, w.n-is), omega (arith, w.n-is, l.invariant.1, grown, times_other a.x here w.if-x-y.false))
+    ]
 
 pub returns : goal.returns
-returns c = let l = c.loop-i in let a = c.args in l.invariant.2 ∙ ap (times a.x) (take_all l.i a.items.now (omega arith))
+returns c = let l = c.loop-y in let a = c.args in l.invariant.1 ∙ ap (times a.x) (take_all l.y-index a.items.now (omega arith))

@@ -18,7 +18,7 @@ more z d e j all last (yes q) h = rw q last
 more z d e j all last (no n) h = all (omega arith)
 
 pub loop-e-init : goal.loop-e-init
-loop-e-init c = let o = c in (record { start = omega arith; within = omega (arith, o.requires.c_bound); erased = λ j h g. absurd (omega arith) }, omega (arith, o.requires.c_bound))
+loop-e-init c = record { start = omega arith; within = omega (arith, c.requires.c_bound); erased = λ j h g. absurd (omega arith) }
 
 pub overflow_mul-e : goal.overflow_mul-e
 overflow_mul-e c = let o = c in omega (arith, first_inside o.requires.chip (on_chip o.args.z c.loop-e.e (omega arith)))
@@ -26,19 +26,14 @@ overflow_mul-e c = let o = c in omega (arith, first_inside o.requires.chip (on_c
 pub kind_at-requires : goal.kind_at-requires
 kind_at-requires c = let o = c in first_inside o.requires.chip (on_chip o.args.z c.loop-e.e (omega arith))
 
-pub returns-then-kind_at : goal.returns-then-kind_at
-returns-then-kind_at c = c.loop-e.invariant.0
-
 pub loop-e-preserved : goal.loop-e-preserved
-loop-e-preserved c = let o = c in let a = o.args in let l = c.loop-e in let d = spare_only a.spare.now in
-    let none : kind (tag_of a.z d l.e 0) ≡ 255 = ap kind (sym (first_tag_lem a.z d l.e)) ∙ (sym c.kind_at.ensures ∙ c.if-kind_at.false) in (
-      record {
-        start = omega (arith, l.invariant.0.start);
-        within = omega arith;
-        erased = λ j h g. more a.z d l.e j (λ q. l.invariant.0.erased j h q) none (ℕ_discrete j l.e) g;
-      },
-      omega arith,
-    )
+loop-e-preserved c = let a = c.args in let l = c.loop-e in let d = spare_only a.spare.now in
+    let none : kind (tag_of a.z d l.e 0) ≡ 255 = ap kind (sym (first_tag_lem a.z d l.e)) ∙ (sym c.kind_at.ensures ∙ c.if-kind_at.false) in
+    record {
+      start = omega (arith, l.invariant.start);
+      within = omega arith;
+      erased = λ j h g. more a.z d l.e j (λ q. l.invariant.erased j h q) none (ℕ_discrete j l.e) g;
+    }
 
 pub returns : goal.returns
-returns c = c.loop-e.invariant.0
+returns c = let e : c.loop-e.e ≡ c.body-end.result = omega arith in rw e at c.loop-e.invariant

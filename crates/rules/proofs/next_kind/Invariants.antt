@@ -1,10 +1,6 @@
 use Rattle.rules.specs.Pages.{NoKinds}
 use Rattle.image.specs.Chip.{spare_only}
-use Prim.Native.Nat.{◌-◌, ◌≤◌}
 use Rattle.rules.proofs.next_kind.Given as goal
 
 abbrev pub invariant-loop-e : goal.invariant-loop-e
-invariant-loop-e l = NoKinds l.z (spare_only l.spare) l.c l.e × (l.e ≤ l.end)
-
-abbrev pub decreases-loop-e : goal.decreases-loop-e
-decreases-loop-e l = l.end - l.e
+invariant-loop-e l = NoKinds l.z (spare_only l.spare) l.c l.e

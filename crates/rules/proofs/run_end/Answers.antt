@@ -56,22 +56,18 @@ pub half_at-first-requires : goal.half_at-first-requires
 half_at-first-requires c = omega (arith, before c.requires.chip c.requires.c_lt_c c.requires.le_k.0 c.requires.le_k.1.0, c.requires.le_k.0)
 
 pub loop-e-init : goal.loop-e-init
-loop-e-init c = (
-  omega arith,
-  c.log_end-end.ensures.0,
-  record {
-    some = c.requires.le_k.0;
-    fits = c.requires.le_k.1;
-    first_is = sym c.half_at-first.ensures;
-    second_is = sym c.half_at-second.ensures;
-    more = c.log_end-end.ensures.2;
-  },
-)
+loop-e-init c = record {
+  some = c.requires.le_k.0;
+  fits = c.requires.le_k.1;
+  first_is = sym c.half_at-first.ensures;
+  second_is = sym c.half_at-second.ensures;
+  more = c.log_end-end.ensures.2;
+}
 
 pub overflow_add-first : goal.overflow_add-first
 overflow_add-first c = let a = c.args in
     let fits = next_fits a.z a.spare.now a.c c.requires.chip c.requires.c_lt_c (λ j. omega (arith, c.shared_slice_known-1.given j)) in
-    omega (arith, fits _ _ _ _ c.loop-e.invariant.2 (omega (arith, c.loop-e-test.true)))
+    omega (arith, fits _ _ _ _ c.loop-e.invariant (omega (arith, c.loop-e-test.true)))
 
 pub overflow_mul-c : goal.overflow_mul-c
 overflow_mul-c c = omega (arith, at_e c.requires.chip c.requires.c_lt_c c.loop-e-test.true c.log_end-end.ensures.1)
@@ -86,13 +82,13 @@ pub are_halves-requires : goal.are_halves-requires
 are_halves-requires c = at_e c.requires.chip c.requires.c_lt_c c.loop-e-test.true c.log_end-end.ensures.1
 
 pub returns-then-not-are_halves : goal.returns-then-not-are_halves
-returns-then-not-are_halves c = (c.loop-e.invariant.0, c.loop-e.invariant.2.fits)
+returns-then-not-are_halves c = (c.loop-e.auto.e, c.loop-e.invariant.fits)
 
 pub loop-e-preserved : goal.loop-e-preserved
 loop-e-preserved c = let a = c.args in let l = c.loop-e in let w = c.log_end-end in
     let q : w.result - (l.e + 1) ≡ w.result - l.e - 1 = omega arith in
     let grown = run_grows a.z a.spare.now a.c c.requires.chip c.requires.c_lt_c (λ j. omega (arith, c.shared_slice_known-1.given j)) in
-    (omega arith, omega arith, rw q (grown _ _ _ _ l.invariant.2 (omega arith) (omega (arith, w.ensures.1)) _ c.are_halves.ensures c.if-not-are_halves.false))
+    rw q (grown _ _ _ _ l.invariant (omega arith) (omega (arith, w.ensures.1)) _ c.are_halves.ensures c.if-not-are_halves.false)
 
 pub returns : goal.returns
-returns c = (c.loop-e.invariant.0, c.loop-e.invariant.2.fits)
+returns c = let e : c.loop-e.e ≡ c.log_end-end.result = omega arith in (c.log_end-end.ensures.0, rw e at c.loop-e.invariant.fits)

@@ -17,7 +17,7 @@ overflow_mul-pages c = omega (arith, (products c.requires.0).pages)
 
 pub loop-page-init : goal.loop-page-init
 unfolding count_below
-loop-page-init c = (omega arith, refl)
+loop-page-init c = refl
 
 pub is_listed-requires : goal.is_listed-requires
 is_listed-requires c = rw c.requires.1 (tag_inside c.args.z c.loop-page.page c.loop-page-test.true)
@@ -25,23 +25,16 @@ is_listed-requires c = rw c.requires.1 (tag_inside c.args.z c.loop-page.page c.l
 pub overflow_add-count : goal.overflow_add-count
 overflow_add-count c = omega (arith, count_le c.loop-page.page (listed c.args.spare.now), (products c.requires.0).pages)
 
-pub overflow_add-page : goal.overflow_add-page
-overflow_add-page c = omega (arith, (products c.requires.0).pages)
-
 pub loop-page-preserved : goal.loop-page-preserved
 loop-page-preserved c = let l = c.loop-page in
     let t = listed c.args.spare.now in
-    let e = sym c.is_listed.ensures in (
-      omega arith,
-      elim c.if-is_listed.branch [
-        | then-is_listed w ↦ w.count-is ∙ rw (l.invariant.1, count_more l.page t (e ∙ w.if-is_listed.true))
-        | else-is_listed w ↦ w.count-is ∙ rw (l.invariant.1, count_same l.page t (e ∙ w.if-is_listed.false))
-      ],
-    )
+    let e = sym c.is_listed.ensures in
+    elim c.if-is_listed.branch [
+      | then-is_listed w ↦ w.count-is ∙ rw (l.invariant, count_more l.page t (e ∙ w.if-is_listed.true))
+      | else-is_listed w ↦ w.count-is ∙ rw (l.invariant, count_same l.page t (e ∙ w.if-is_listed.false))
+    ]
 
 pub returns : goal.returns
 unfolding is_listed
-returns c = let l = c.loop-page in
-    let z = c.args.z in
-    let e : l.page ≡ z.c * z.p = omega arith in
-    rw e at l.invariant.1
+returns c = let e : c.loop-page.page ≡ c.args.z.c * c.args.z.p = omega arith in
+    rw e at c.loop-page.invariant

@@ -1,6 +1,5 @@
 use mathlib.Core.List.{[]}
 use mathlib.Core.Path.{◌≡◌}
-use Prim.Native.Nat.{◌-◌, ◌≤◌}
 use lib.ListN.{length}
 use Rattle.lists.specs.Lists.{splice}
 use Rattle.geometry.specs.Geometry.{device}
@@ -8,8 +7,5 @@ use Rattle.send.proofs.Lengths.{lines_below}
 use Rattle.send.proofs.put_pages.Given as goal
 
 abbrev pub invariant-loop-page : goal.invariant-loop-page
-invariant-loop-page l = (l.page ≤ l.pages) × (length l.text ≡ length l.initial.text)
-    × (l.at ≡ length (lines_below l.z (device l.flash l.spare []) l.page)) × (l.text ≡ splice l.initial.text 0 (lines_below l.z (device l.flash l.spare []) l.page))
-
-abbrev pub decreases-loop-page : goal.decreases-loop-page
-decreases-loop-page l = l.pages - l.page
+invariant-loop-page l =
+    (l.at ≡ length (lines_below l.z (device l.flash l.spare []) l.page)) × (l.text ≡ splice l.initial.text 0 (lines_below l.z (device l.flash l.spare []) l.page))

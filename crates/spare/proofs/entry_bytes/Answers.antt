@@ -1,6 +1,7 @@
-use native.Mathlib.Omega.{arith}
-use Rattle.spare.proofs.Entries.{entry_test}
+use Rattle.model.specs.Spare.{epoch, back, entry_tag}
+use Rattle.spare.specs.Fields.{tag}
 use Rattle.spare.proofs.entry_bytes.Goals as goal
 
 pub returns : goal.returns
-returns c = entry_test c.args.bytes.now c.requires (λ i. omega (arith, c.shared_slice_known-1.given i))
+unfolding epoch back entry_tag tag
+returns c = rw (c.equal.ensures, c.encode.ensures, c.four_at.ensures, c.two_at.ensures)

@@ -1,7 +1,7 @@
-use mathlib.Core.Path.{◌∙◌}
-use Rattle.model.specs.Spare.{four}
+use Rattle.std.proofs.Common.{arith, ◌∙◌}
+use Rattle.model.specs.Spare.{two, four}
 use Rattle.spare.proofs.four_at.Goals as goal
 
 pub returns : goal.returns
-unfolding four
-returns c = c.four_bytes.ensures ∙ rw c.two_at-high.ensures
+unfolding two four
+returns c = c.from_be_bytes.ensures ∙ omega arith

@@ -12,6 +12,6 @@ pub returns-then-bytes-eq-SPOILED_KIND : goal.returns-then-bytes-eq-SPOILED_KIND
 unfolding seen spoiled kind
 returns-then-bytes-eq-SPOILED_KIND c = rw (sym c.is_blank.ensures ∙ c.if-is_blank.false, eq-eqb _ _ c.if-bytes-eq-SPOILED_KIND.true)
 
-pub returns : goal.returns
+pub returns-else-bytes-eq-SPOILED_KIND : goal.returns-else-bytes-eq-SPOILED_KIND
 unfolding seen spoiled kind
-returns c = rw (sym c.is_blank.ensures ∙ c.if-is_blank.false, ne_eqb _ _ c.if-bytes-eq-SPOILED_KIND.false, c.decode-found.ensures)
+returns-else-bytes-eq-SPOILED_KIND c = rw (sym c.is_blank.ensures ∙ c.if-is_blank.false, ne_eqb _ _ c.if-bytes-eq-SPOILED_KIND.false, c.decode.ensures)

@@ -3,4 +3,4 @@ use Rattle.spare.proofs.two_at.Goals as goal
 
 pub returns : goal.returns
 unfolding two
-returns c = c.two_bytes.ensures
+returns c = c.from_be_bytes.ensures

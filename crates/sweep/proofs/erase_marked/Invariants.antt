@@ -1,4 +1,3 @@
-use Prim.Native.Nat.{◌-◌, ◌≤◌}
 use mathlib.Core.Path.{◌≡◌}
 use mathlib.Core.List.{map}
 use Rattle.lists.specs.Lists.{below, keep}
@@ -10,8 +9,5 @@ use Rattle.image.specs.Chip.{spare_only}
 use Rattle.sweep.proofs.erase_marked.Given as goal
 
 abbrev pub invariant-loop-bucket : goal.invariant-loop-bucket
-invariant-loop-bucket l = (l.bucket ≤ l.end) × Lent l.z l.flash l.spare l.disk
+invariant-loop-bucket l = Lent l.z l.flash l.spare l.disk
     × (running l.flash l.spare l.disk l.run ≡ run_all l.z (map erase (keep (named l.z (spare_only l.initial.spare)) (below l.bucket))) (running l.initial.flash l.initial.spare l.initial.disk l.initial.run))
-
-abbrev pub decreases-loop-bucket : goal.decreases-loop-bucket
-decreases-loop-bucket l = l.end - l.bucket

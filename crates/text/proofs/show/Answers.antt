@@ -1,5 +1,6 @@
 -- `text::show` meets its contract.
 use mathlib.Core.Path.{◌≡◌, sym}
+use Prim.Native.Nat.{◌/◌, ◌%◌}
 use native.Mathlib.Omega.{arith}
 use lib.ListN.{length, length-set}
 use Rattle.text.proofs.Shown.{shown-length, put_shown}
@@ -12,7 +13,8 @@ shape_of-out c =
 
 pub returns : goal.returns
 returns c =
-    let a = c.args in (
+    let a = c.args in
+    let high : a.stores / 256 % 256 ≡ a.stores / 256 = omega arith in (
       sym (shown-length a.answer a.stores a.bytes.now),
-      rw (c.put_bytes-2.ensures, c.put_bytes.ensures) (put_shown a.answer a.stores a.bytes.now a.out.now c.requires.bytes_in_bounds),
+      rw (c.put_bytes-2.ensures, c.put_bytes.ensures, c.to_be_bytes.ensures, high) (put_shown a.answer a.stores a.bytes.now a.out.now c.requires.bytes_in_bounds),
     )

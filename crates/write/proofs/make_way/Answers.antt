@@ -17,20 +17,20 @@ outgoing-out-requires c = let p = c.requires in
 
 pub evict-requires : goal.evict-requires
 evict-requires c = let p = c.requires in
-    let held = outgoing_held _ _ _ _ _ p.yields.ready.orderly.limits.w_low (sym c.outgoing-out.ensures ∙ c.in-Bucket.is) in
+    let held = outgoing_held _ _ _ _ _ p.yields.ready.orderly.limits.w_low (sym c.outgoing-out.ensures ∙ c.in-Some.is) in
     record { lent = p.lent; evicts = (yields_evicts p.yields _ held, p.yields.body_formed) }
 
-pub returns-in-Bucket : goal.returns-in-Bucket
+pub returns-in-Some : goal.returns-in-Some
 unfolding make_way evict_any after
-returns-in-Bucket c = let outgoing = c.outgoing-out in
+returns-in-Some c = let outgoing = c.outgoing-out in
     let a = c.args in
     let d = device a.flash.now a.spare.now a.disk.now in
-    let says = sym (same_outgoing a.s.sizes d a.b (places_of a.s)) ∙ sym outgoing.ensures ∙ c.in-Bucket.is in
+    let says = sym (same_outgoing a.s.sizes d a.b (places_of a.s)) ∙ sym outgoing.ensures ∙ c.in-Some.is in
     record { result_after = rw says c.evict.ensures.result_after; lent_2 = c.evict.ensures.lent_2 }
 
-pub returns-in-Nobody : goal.returns-in-Nobody
+pub returns-in-None : goal.returns-in-None
 unfolding make_way evict_any nothing after run_all
-returns-in-Nobody c = let a = c.args in
+returns-in-None c = let a = c.args in
     let d = device a.flash.now a.spare.now a.disk.now in
-    let says = sym (same_outgoing a.s.sizes d a.b (places_of a.s)) ∙ sym c.outgoing-out.ensures ∙ c.in-Nobody.is in
+    let says = sym (same_outgoing a.s.sizes d a.b (places_of a.s)) ∙ sym c.outgoing-out.ensures ∙ c.in-None.is in
     record { result_after = rw says; lent_2 = c.requires.lent }

@@ -5,11 +5,12 @@ use borrow.Author.Rules.{rules}
 use Rattle.lists.specs.Lists.{head}
 use Rattle.fifo.proofs.Fifo.head.Goals as goal
 
-pub returns-then-len-eq0 : goal.returns-then-len-eq0
+pub returns-then-self-eq0 : goal.returns-then-self-eq0
 unfolding head
-returns-then-len-eq0 c = search rules
+returns-then-self-eq0 c = search rules
 
-pub returns : goal.returns
+pub returns-else-self-eq0 : goal.returns-else-self-eq0
 unfolding head
-returns c = let q = c.args.self in
+returns-else-self-eq0 c =
+    let q = c.args.self in
     sym (get_or-take q.len q.items 0 0 (omega arith))

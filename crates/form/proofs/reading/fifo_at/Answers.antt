@@ -1,48 +1,45 @@
 -- `reading::fifo_at` meets its contract.
-use Prim.Native.Nat.{◌+◌}
+use Prim.Native.Nat.{ℕ, ◌+◌, ◌≤◌}
+use mathlib.Core.Bool.{true}
+use mathlib.Core.List.{List}
 use mathlib.Core.Path.{◌≡◌, ◌∙◌}
-use mathlib.Core.List.{[], ◌∷◌, ◌++◌}
+use native.Mathlib.Nat.{add-sub_cancel_left}
 use native.Mathlib.Omega.{arith}
-use lib.ListN.{get_or}
-use Rattle.fifo.specs.View.{list_of}
-use Rattle.form.specs.Rows.{width}
-use Rattle.form.specs.Form.{bucket_widths, bucket_from, buckets_in}
-use Rattle.form.proofs.Found.{none_made, row_made, all_made, row_there, table_at, table_room, joined_more, bucket_at}
+use borrow.Author.Rules.{rules}
+use lib.ListN.{length, drop, length-drop}
+use lib.Seq.{length-take-le}
+use Rattle.form.specs.Numbers.{number_in}
+use Rattle.form.specs.Rows.{width, table_fits}
+use Rattle.form.specs.Form.{bucket_widths, buckets_in}
+use Rattle.form.proofs.Found.{buckets_are, table_at, table_room}
 use Rattle.form.proofs.reading.fifo_at.Goals as goal
 
-pub loop-i-init : goal.loop-i-init
-loop-i-init c = let a = c.args in
-    (omega arith, rw c.empty-queue.ensures (none_made bucket_widths bucket_from a.bytes.now (a.at + 2) c.number_at-n.result))
-
-pub bounds-bytes-from : goal.bounds-bytes-from
+-- the buckets are there, and no more than a queue has places for
+there : (bytes : List ℕ) (at n : ℕ) → n ≡ number_in 2 (drop at bytes) → at ≤ length bytes → table_fits 2 bucket_widths 256 (drop at bytes) ≡ true → (n ≤ 256) × (at + 2 + n ≤ length bytes)
 unfolding width
-bounds-bytes-from c = let start = c in
-    let a = start.args in
-    let room = table_room 2 bucket_widths a.bytes.now a.at c.number_at-n.result c.number_at-n.ensures.0 256 start.requires.0 start.requires.1 in
-    omega (arith, row_there bucket_widths bucket_from c.loop-i-test.true c.loop-i.invariant.1, room.1)
+there bytes at n count inside fits =
+    let room = table_room 2 bucket_widths bytes at n count 256 inside fits in
+    (room.0, omega (arith, room.1))
 
-pub overflow_add-from-in-loop-i : goal.overflow_add-from-in-loop-i
-unfolding width
-overflow_add-from-in-loop-i c = let start = c in
-    let a = start.args in
-    let room = table_room 2 bucket_widths a.bytes.now a.at c.number_at-n.result c.number_at-n.ensures.0 256 start.requires.0 start.requires.1 in
-    omega (arith, row_there bucket_widths bucket_from c.loop-i-test.true c.loop-i.invariant.1, room.1)
+pub overflow_add-from : goal.overflow_add-from
+overflow_add-from c =
+    let room = there c.args.bytes.now c.args.at c.number_at-n.result c.number_at-n.ensures.0 c.requires.0 c.requires.1 in
+    omega (arith, room.1)
 
-pub loop-i-preserved : goal.loop-i-preserved
-unfolding width
-loop-i-preserved c = let start = c in
-    let a = start.args in
-    let l = c.loop-i in
-    let room = table_room 2 bucket_widths a.bytes.now a.at c.number_at-n.result c.number_at-n.ensures.0 256 start.requires.0 start.requires.1 in
-    let next = row_made bucket_widths bucket_from c.loop-i-test.true l.invariant.1 in
-    let bucket = get_or a.bytes.now l.from 0 in
-    let pushed : list_of c.push-queue.result ≡ list_of l.queue ++ (bucket ∷ []) = c.push-queue.ensures ∙ joined_more 256 (list_of l.queue) bucket (omega (arith, l.invariant.1.counted, room.0)) in
-    (omega arith, rw (pushed, ← bucket_at a.bytes.now l.from) next)
+pub slice_bounds-fifo_of-end : goal.slice_bounds-fifo_of-end
+slice_bounds-fifo_of-end c =
+    let room = there c.args.bytes.now c.args.at c.number_at-n.result c.number_at-n.ensures.0 c.requires.0 c.requires.1 in
+    search rules
+
+pub fifo_of-requires : goal.fifo_of-requires
+fifo_of-requires c = let n = c.number_at-n.result in let from = c.args.at + 2 in
+    let room = there c.args.bytes.now c.args.at n c.number_at-n.ensures.0 c.requires.0 c.requires.1 in
+    let long : n ≤ length (drop from c.args.bytes.now) = omega (arith, length-drop from c.args.bytes.now, room.1) in
+    rw (add-sub_cancel_left from n, length-take-le n (drop from c.args.bytes.now) long) room.0
 
 pub returns : goal.returns
 unfolding buckets_in
-returns c = let a = c.args in
-    let count = c.number_at-n in
-    let l = c.loop-i in
-    let buckets = all_made bucket_widths bucket_from c.loop-i-test.false l.invariant.1 in
-    c.cleared.ensures ∙ rw (buckets, table_at 2 bucket_widths a.bytes.now a.at count.result count.ensures.0)
+returns c = let a = c.args in let n = c.number_at-n.result in let from = a.at + 2 in
+    let room = there a.bytes.now a.at n c.number_at-n.ensures.0 c.requires.0 c.requires.1 in
+    let long : n ≤ length (drop from a.bytes.now) = omega (arith, length-drop from a.bytes.now, room.1) in
+    c.fifo_of.ensures ∙ rw (add-sub_cancel_left from n, table_at 2 bucket_widths a.bytes.now a.at n c.number_at-n.ensures.0, buckets_are n (drop from a.bytes.now) long)

@@ -1,4 +1,4 @@
-use Prim.Native.Nat.{◌≤◌, ◌-◌, ◌+◌, ◌*◌}
+use Prim.Native.Nat.{◌-◌, ◌+◌, ◌*◌}
 use mathlib.Core.Bool.{true}
 use mathlib.Core.Path.{◌≡◌}
 use lib.ListN.{drop}
@@ -8,7 +8,4 @@ use Rattle.form.specs.Rows.{rows_in}
 use Rattle.form.proofs.reading.marks_fit.Given as goal
 
 abbrev pub invariant-loop-i : goal.invariant-loop-i
-invariant-loop-i l = (l.i ≤ l.n) × (l.from ≤ l.at + 1 + l.i * 8) × (all is_entry (rows_in (entry_widths true) l.n (drop (l.at + 1) l.bytes)) ≡ all is_entry (rows_in (entry_widths true) (l.n - l.i) (drop l.from l.bytes)))
-
-abbrev pub decreases-loop-i : goal.decreases-loop-i
-decreases-loop-i l = l.n - l.i
+invariant-loop-i l = all is_entry (rows_in (entry_widths true) l.n (drop (l.at + 1) l.bytes)) ≡ all is_entry (rows_in (entry_widths true) (l.n - l.i) (drop (l.at + 1 + l.i * 6) l.bytes))

@@ -1,42 +1,43 @@
 -- `writing::put_buckets` meets its contract.
-use mathlib.Core.Path.{refl}
-use mathlib.Core.List.{append-nil}
+use Prim.Native.Nat.{ℕ, ◌+◌}
+use mathlib.Core.List.{List}
+use mathlib.Core.Path.{◌≡◌, refl, sym, ap, ◌∙◌}
 use native.Mathlib.Omega.{arith}
-use borrow.Author.Rules.{rules}
-use lib.ListN.{get_or}
+use lib.ListN.{length, get_or}
+use mir.Val.{Fits}
+use mir.Syntax.{w8}
+use Rattle.lists.specs.Lists.{splice}
 use Rattle.form.specs.Numbers.{number_bytes}
-use Rattle.form.specs.Rows.{width, row_bytes}
-use Rattle.form.specs.Form.{bucket_widths, bucket_numbers}
-use Rattle.form.proofs.Written.{bucket_shaped, rows_left, row_put, all_put}
+use Rattle.form.specs.Form.{bucket_widths, bucket_numbers, buckets_form}
+use Rattle.form.proofs.Written.{buckets_laid, rows_of, table_long, table_put}
 use Rattle.form.proofs.writing.put_buckets.Goals as goal
 
-pub loop-i-init : goal.loop-i-init
-loop-i-init c = (omega arith, refl, search rules, record { whole = refl; ends = refl })
-
 pub put_number-requires : goal.put_number-requires
-unfolding width
-put_number-requires c = let a = c.args in
-    let l = c.loop-i in
-    let long = rows_left bucket_widths bucket_numbers bucket_shaped 0 a.items a.n l.i (omega arith) (omega arith) in
-    omega (arith, long, l.invariant.3.ends, c.requires.1)
+unfolding buckets_form
+put_number-requires c = omega (arith, table_long 2 bucket_widths bucket_numbers c.args.buckets.now, c.requires)
 
-pub overflow_add-end : goal.overflow_add-end
-unfolding width
-overflow_add-end c = let start = c in
-    let a = start.args in
-    let l = c.loop-i in
-    let long = rows_left bucket_widths bucket_numbers bucket_shaped 0 a.items a.n l.i (omega arith) (omega arith) in
-    omega (arith, long, l.invariant.3.ends, start.requires.1)
+-- the buckets' bytes are the buckets
+laid : (buckets : List ℕ) → ((i : ℕ) → Fits w8 (get_or buckets i 0)) → rows_of bucket_widths bucket_numbers buckets ≡ buckets
+laid buckets fit = buckets_laid buckets (λ i. omega (arith, fit i))
 
-pub loop-i-preserved : goal.loop-i-preserved
-unfolding width row_bytes bucket_numbers
-loop-i-preserved c = let start = c in
-    let a = start.args in
-    let l = c.loop-i in
-    let left = row_put bucket_widths bucket_numbers bucket_shaped 0 a.items a.n l.i (omega arith) (omega arith) l.invariant.3 (omega (arith, start.requires.1)) in
-    (omega arith, search rules, l.invariant.2, rw (c.put_number.ensures, ← append-nil (number_bytes 1 (get_or a.items l.i 0))) left)
+pub write_at-requires : goal.write_at-requires
+unfolding buckets_form
+write_at-requires c = let buckets = c.args.buckets.now in
+    omega (arith, table_long 2 bucket_widths bucket_numbers buckets, ap length (laid buckets c.type_inv.buckets), c.requires)
+
+pub overflow_add-result-2 : goal.overflow_add-result-2
+unfolding buckets_form
+overflow_add-result-2 c = let buckets = c.args.buckets.now in
+    omega (arith, table_long 2 bucket_widths bucket_numbers buckets, ap length (laid buckets c.type_inv.buckets), c.requires)
 
 pub returns : goal.returns
-returns c = let a = c.args in
-    let l = c.loop-i in
-    all_put bucket_widths bucket_numbers a.items a.n l.i (omega arith) l.invariant.3
+unfolding buckets_form
+returns c = let out = c.args.out.now in let at = c.args.at in let buckets = c.args.buckets.now in
+    let n = length buckets in
+    let long = table_long 2 bucket_widths bucket_numbers buckets in (
+      omega (arith, long, ap length (laid buckets c.type_inv.buckets)),
+      c.write_at.ensures
+          ∙ rw c.put_number.ensures
+          (ap (λ (l : List ℕ). splice (splice out at (number_bytes 2 n)) (at + 2) l) (sym (laid buckets c.type_inv.buckets))
+          ∙ table_put 2 bucket_widths bucket_numbers buckets n refl out at (omega (arith, long, c.requires))),
+    )

@@ -1,12 +1,6 @@
-use Prim.Native.Nat.{◌≤◌, ◌-◌}
-use mathlib.Core.Path.{◌≡◌}
-use lib.ListN.{length}
 use Rattle.form.specs.Form.{entry_widths, entry_numbers}
 use Rattle.form.proofs.Written.{Left}
 use Rattle.form.proofs.writing.put_entries.Given as goal
 
-abbrev pub invariant-loop-i : goal.invariant-loop-i
-invariant-loop-i l = (l.i ≤ l.n) × (length l.out ≡ length l.initial.out) × (length l.items ≡ 64) × Left (entry_widths l.write) (entry_numbers l.write) l.items l.n l.initial.out l.at l.out l.end l.i
-
-abbrev pub decreases-loop-i : goal.decreases-loop-i
-decreases-loop-i l = l.n - l.i
+abbrev pub invariant-loop-e : goal.invariant-loop-e
+invariant-loop-e l = Left (entry_widths l.write) (entry_numbers l.write) l.entries l.initial.out l.at l.out l.end l.e-index

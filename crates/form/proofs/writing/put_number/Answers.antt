@@ -9,17 +9,17 @@ use Rattle.form.proofs.Written.{put_last}
 use Rattle.form.proofs.writing.put_number.Goals as goal
 
 pub loop-i-init : goal.loop-i-init
-loop-i-init c = (omega arith, refl, refl)
+loop-i-init c = (refl, refl)
 
 pub loop-i-preserved : goal.loop-i-preserved
 loop-i-preserved c = let l = c.loop-i in
     let a = c.args in
     let step : suc (l.i - 1) ≡ l.i = omega arith in
-    (omega arith, simp length-set (omega arith), put_last l.out a.at (l.i - 1) l.rest (omega arith) ∙ rw step l.invariant.2)
+    (simp length-set (omega arith), put_last l.out a.at (l.i - 1) l.rest (omega arith) ∙ rw step l.invariant.1)
 
 pub returns : goal.returns
 unfolding number_bytes
 returns c = let l = c.loop-i in
     let a = c.args in
     let end : l.i ≡ 0 = omega arith in
-    sym (splice-none l.out a.at) ∙ rw end at l.invariant.2
+    sym (splice-none l.out a.at) ∙ rw end at l.invariant.1

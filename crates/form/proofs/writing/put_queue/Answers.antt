@@ -18,7 +18,7 @@ unfolding entries_form
 put_entries-requires c = let a = c.args in
     let used = c.used-n in
     let same : take used.result a.queue.items ≡ entries_of a.queue = take-used used.result a.queue.len a.queue.items used.ensures.0 in
-    (used.ensures.1, rw same (omega (arith, table_long 1 (entry_widths a.write) (entry_numbers a.write) (entries_of a.queue), c.requires)))
+    rw same (omega (arith, table_long 1 (entry_widths a.write) (entry_numbers a.write) (entries_of a.queue), c.requires))
 
 pub returns : goal.returns
 unfolding entries_form
@@ -27,4 +27,4 @@ returns c = let a = c.args in
     let put = c.put_entries.ensures in
     let same : take used.result a.queue.items ≡ entries_of a.queue = take-used used.result a.queue.len a.queue.items used.ensures.0 in
     let long = table_long 1 (entry_widths a.write) (entry_numbers a.write) (entries_of a.queue) in
-    (omega (arith, long, rw same at put.0), rw (put.1, same, c.put_number.ensures) (table_put 1 (entry_widths a.write) (entry_numbers a.write) (entries_of a.queue) used.result used.ensures.0 a.out.now a.at (omega (arith, long, c.requires))))
+    (omega (arith, long, rw same at put.end), rw (put.written, same, c.put_number.ensures) (table_put 1 (entry_widths a.write) (entry_numbers a.write) (entries_of a.queue) used.result used.ensures.0 a.out.now a.at (omega (arith, long, c.requires))))

@@ -3,11 +3,6 @@ use Rattle.model.specs.Sizes.{body}
 use Rattle.overlay.proofs.Found.{listed}
 use Rattle.remerge.proofs.old.lay_over.Goals as goal
 
-pub overflow_cast-list : goal.overflow_cast-list
-overflow_cast-list c = omega (arith, c.type_inv.list c.loop-i.i)
-
-pub merge_range-requires : goal.merge_range-requires
-merge_range-requires c = let start = c in
-    let x = start.args in
-    let l = c.loop-i in
-    record { readable = start.requires.readable; c_bound = listed (body x.z) x.list.now start.requires.list_value l.i c.loop-i-test.true; window_bound = omega (arith, l.invariant.1, start.requires.window_bound) }
+pub merge_range-requires-clause-c_bound : goal.merge_range-requires-clause-c_bound
+merge_range-requires-clause-c_bound c =
+    rw c.from.ensures (listed (body c.args.z) c.args.list.now c.requires.list_value c.loop-c.c-index (omega arith))

@@ -4,7 +4,7 @@ use lib.ListN.{length-take}
 use Rattle.workbench.proofs.shows.show_state.Goals as goal
 
 pub slice_bounds-show-end : goal.slice_bounds-show-end
-slice_bounds-show-end c = simp length-take (omega (arith, c.state_bytes-count.ensures))
+slice_bounds-show-end c = simp length-take (omega (arith, c.in-Some.ensures.upper_bound))
 
 pub show-requires : goal.show-requires
-show-requires c = (simp length-take (omega (arith, c.state_bytes-count.ensures)), c.requires)
+show-requires c = (simp length-take (omega (arith, c.in-Some.ensures.upper_bound)), c.requires)

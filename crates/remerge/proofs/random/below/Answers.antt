@@ -1,5 +1,0 @@
-use Rattle.std.proofs.Common.{mod-lt}
-use Rattle.remerge.proofs.random.below.Goals as goal
-
-pub returns : goal.returns
-returns c = mod-lt _ c.requires

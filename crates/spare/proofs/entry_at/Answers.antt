@@ -1,7 +1,0 @@
-use Rattle.lists.specs.Lists.{part}
-use native.Mathlib.Nat.{add-sub_cancel_left}
-use Rattle.spare.proofs.entry_at.Goals as goal
-
-pub returns : goal.returns
-unfolding part
-returns c = rw add-sub_cancel_left at c.entry_bytes.ensures
