@@ -10,20 +10,48 @@ import re
 
 CONVERSIONS = re.compile(r"[/%*] (256|65536|16777216|4294967296)\b")
 SMALLER = re.compile(r"^\s*if \w+ < [\w.]+ \{ [\w.]+ \} else \{ [\w.]+ \}$")
-BYTE_LOOP = re.compile(r"^\s*while ")
+LOOP = re.compile(r"^\s*while ")
 STEP = re.compile(r"^\s*\w+ [+-]= 1;$")
-SIGNATURE = re.compile(r"fn (\w+)(<[^>]*>)?\((.*?)\)( -> ([^\n{]+))?", re.S)
 SENTINEL = re.compile(r"\b(NOWHERE|NO_KIND|NO_PLACE|PAGES)\b")
+
+
+def bracketed(text, start):
+    """Where the bracket that opens at `start` is closed."""
+    depth = 0
+    for i in range(start, len(text)):
+        if text[i] in "(<[":
+            depth += 1
+        elif text[i] in ")]" or (text[i] == ">" and text[i - 1] != "-"):
+            depth -= 1
+            if depth == 0:
+                return i
+    raise ValueError(text)
+
+
+def split(parameters):
+    """At the commas that stand in no bracket."""
+    parts, depth, begin = [], 0, 0
+    for i, c in enumerate(parameters):
+        depth += (c in "(<[") - (c in ")]" or (c == ">" and parameters[i - 1] != "-"))
+        if c == "," and depth == 0:
+            parts.append(parameters[begin:i])
+            begin = i + 1
+    return [p.strip() for p in parts + [parameters[begin:]] if p.strip()]
 
 
 class Function:
     def __init__(self, crate, file, line, text):
         self.crate, self.file, self.line, self.text = crate, file, line, text
-        found = SIGNATURE.search(text)
+        found = re.search(r"fn (\w+)", text)
         self.name = found.group(1)
-        self.parameters = [p.strip() for p in re.split(r",(?![^<\[]*[>\]])", found.group(3)) if p.strip()]
-        self.result = (found.group(5) or "").strip()
-        self.body = text[text.find("\n{") + 2:] if "\n{" in text else text[text.find("{") + 1:]
+        at = found.end()
+        if text[at] == "<":
+            at = bracketed(text, at) + 1
+        end = bracketed(text, at)
+        self.parameters = split(text[at + 1:end])
+        result = re.match(r" -> ([^\n{]+)", text[end + 1:])
+        self.result = result.group(1).strip() if result else ""
+        self.body = text[text.find("\n{") + 2:] if "\n{" in text else text[text.find("{", end) + 1:]
         self.clauses = re.findall(r"^\s*(?:requires|ensures)(?: \w+)? \{ (.*) \}$", text, re.M)
 
     def place(self):
@@ -88,7 +116,7 @@ def main():
         if SENTINEL.search(f.body) and f.result in ("usize", "u16", "u8"):
             places["1 sentinels for none"].append(f.place())
         for number, line in enumerate(f.body.split("\n")):
-            if BYTE_LOOP.match(line) and any(STEP.match(other) for other in f.body.split("\n")):
+            if LOOP.match(line) and any(STEP.match(other) for other in f.body.split("\n")):
                 places["3 loops that count by hand"].append(f"{f.file}:{f.line + number} {f.name}: {line.strip()}")
         names = [p.split(":")[0].strip() for p in f.parameters]
         if {"flash", "spare", "disk"} <= set(names):

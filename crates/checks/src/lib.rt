@@ -25,7 +25,7 @@ pub fn check_image(z: Sizes, flash: &[u8], spare: &[u8], disk: &[u8]) -> Result<
     Ok(())
 }
 
-// Numbers 1, 2 and 4, of recover.
+// Numbers 1, 2 and 4, of recover. The one test in which it differs from the check above is no shorter as a closure.
 pub fn check_recover(z: Sizes, flash: &[u8], spare: &[u8], disk: &[u8]) -> Result<(), Refusal>
     ensures { number result ≡ first_failed (lent_tests z (device flash.now spare.now disk.now) ++ ((4, recoverable z (device flash.now spare.now disk.now)) ∷ [])) }
 {

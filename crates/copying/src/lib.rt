@@ -10,6 +10,7 @@ ghost use Rattle.model.specs.Steps.{merged, copy};
 ghost use Rattle.model.proofs.Limits.{Limits};
 ghost use Rattle.geometry.specs.Geometry.{device, Lent};
 ghost use Rattle.meter.specs.Run.{running, run_all};
+ghost use Rattle.meter.specs.Lent.{run_of, LentTo, Stays};
 ghost use Rattle.log_pages.specs.Logs.{all_stores};
 ghost use Rattle.state.specs.View.{places_of};
 ghost use Rattle.steps.specs.Turns.{reached, after};
@@ -18,10 +19,9 @@ ghost use Rattle.copying.specs.Fresh.{room_of, Takes, erases, fresh_stores, Copi
 ghost use Rattle.copying.specs.Laid.{listed_bytes, Laid};
 
 use log_pages::Log;
-use meter::Meter;
+use meter::{Meter, Run};
 use model::{Entry, Sizes};
 use state::State;
-use steps::Turn;
 
 // Where an allocation puts its log: with an empty free queue, into the GC head, which is erased first.
 #[derive(Clone, Copy)]
@@ -53,23 +53,15 @@ pub fn room_of(s: State) -> Room
     }
 }
 
-fn erase_room(
-    meter: Meter,
-    z: Sizes,
-    room: Room,
-    flash: &mut [u8],
-    spare: &mut [u8],
-    disk: &mut [u8],
-) -> Meter
-    requires lent { Lent z flash.old spare.old disk.old }
+fn erase_room(run: &mut Run<'_>, z: Sizes, room: Room)
+    requires lent { LentTo z run.old }
     requires limits { Limits z × (room.bucket < body z) }
-    ensures result_after { running flash.new spare.new disk.new result ≡ run_all z (erases z (device flash.old spare.old disk.old) room) (running flash.old spare.old disk.old meter) }
-    ensures lent_2 { Lent z flash.new spare.new disk.new }
+    ensures after { run_of run.new ≡ run_all z (erases z (run_of run.old).device room) (run_of run.old) }
+    ensures stays { Stays z run.old run.new }
 {
     if room.erase {
-        return noted::erase_noted(meter, z, room.bucket, flash, spare, disk);
+        noted::erase_noted(run, z, room.bucket);
     }
-    meter
 }
 
 // A log of b, from page 0 of the room on.
@@ -88,25 +80,22 @@ fn log_in(room: Room, kind: u8, b: u16, offset: u16) -> Log
 
 // A log of b goes into the room, given by its numbers alone: a state would be copied whole. The caller takes the bucket off its queue.
 pub fn fresh_log(
-    meter: Meter,
+    run: &mut Run<'_>,
     z: Sizes,
     room: Room,
     kind: u8,
     b: u16,
     offset: u16,
     bytes: &[u8],
-    flash: &mut [u8],
-    spare: &mut [u8],
-    disk: &mut [u8],
-) -> Meter
-    requires lent { Lent z flash.old spare.old disk.old }
+)
+    requires lent { LentTo z run.old }
     requires takes { Takes z room (length bytes.now) }
-    ensures result_after { running flash.new spare.new disk.new result ≡ run_all z (fresh_stores z (device flash.old spare.old disk.old) room kind b offset bytes.now) (running flash.old spare.old disk.old meter) }
-    ensures lent_2 { Lent z flash.new spare.new disk.new }
+    ensures after { run_of run.new ≡ run_all z (fresh_stores z (run_of run.old).device room kind b offset bytes.now) (run_of run.old) }
+    ensures stays { Stays z run.old run.new }
 {
-    let erased = erase_room(meter, z, room, flash, spare, disk);
+    erase_room(run, z, room);
     let target = log_in(room, kind, b, offset);
-    log_pages::program_log(erased, z, target, bytes, flash, spare, disk)
+    log_pages::program_log(run, z, target, bytes);
 }
 
 // Lays so many bytes of b into the bucket: the logs of the listed buckets over the read bucket or the disk.
@@ -136,6 +125,7 @@ fn lay_bytes(
 }
 
 // The pages of the copy, as many as the allowance lets be made: their bytes at one go, from where they stand, and then their spare bytes.
+// Chip and disk are lent on; the chip alone is written.
 fn fill_room(
     meter: Meter,
     z: Sizes,
@@ -144,12 +134,13 @@ fn fill_room(
     base: Option<Entry>,
     flash: &mut [u8],
     spare: &mut [u8],
-    disk: &[u8],
+    disk: &mut [u8],
 ) -> Meter
-    requires laid { Laid z list.now base target.back target.bucket flash.old spare.old disk.now }
+    requires laid { Laid z list.now base target.back target.bucket flash.old spare.old disk.old }
     requires first_value { target.first ≡ 0 }
-    ensures result_after { running flash.new spare.new disk.now result ≡ run_all z (all_stores z target (listed_bytes z (device flash.old spare.old disk.now) list.now base target.back)) (running flash.old spare.old disk.now meter) }
-    ensures bucket_after { result.cut ≡ false → bucket_bytes z (device flash.new spare.new disk.now) target.bucket ≡ listed_bytes z (device flash.old spare.old disk.now) list.now base target.back }
+    ensures after { running flash.new spare.new disk.new result ≡ run_all z (all_stores z target (listed_bytes z (device flash.old spare.old disk.old) list.now base target.back)) (running flash.old spare.old disk.old meter) }
+    ensures lent_after { Lent z flash.new spare.new disk.new }
+    ensures bucket_after { result.cut ≡ false → bucket_bytes z (device flash.new spare.new disk.new) target.bucket ≡ listed_bytes z (device flash.old spare.old disk.old) list.now base target.back }
 {
     let pages = meter::allowed(meter, z.p);
     let n = pages * z.s;
@@ -170,38 +161,31 @@ fn fill_room(
 
 // The copy of b becomes its read bucket, the most recent one; the bucket that it takes the place of joins GC. What the queues say of b is looked
 // up before the first store: the state, looked at later, would be copied whole.
-pub fn copy(
-    meter: Meter,
-    s: State,
-    kind: u8,
-    b: u16,
-    flash: &mut [u8],
-    spare: &mut [u8],
-    disk: &mut [u8],
-) -> Turn
-    requires lent { Lent s.sizes flash.old spare.old disk.old }
+pub fn copy(run: &mut Run<'_>, s: State, kind: u8, b: u16) -> State
+    requires lent { LentTo s.sizes run.old }
     requires copies { Copies (places_of s) b × Single (places_of s) }
-    requires sources { Sources (places_of s) b flash.old spare.old disk.old }
-    ensures result_after { reached flash.new spare.new disk.new result ≡ after s.sizes (copy s.sizes kind b (merged s.sizes (places_of s) (device flash.old spare.old disk.old) b)) (places_of s) (running flash.old spare.old disk.old meter) }
-    ensures lent_2 { Lent s.sizes flash.new spare.new disk.new }
-    ensures state_after { result.meter.cut ≡ false → bucket_bytes s.sizes (device flash.new spare.new disk.new) (cache_of b (places_of result.state).reads) ≡ merged s.sizes (places_of s) (device flash.old spare.old disk.old) b }
+    requires sources { Sources (places_of s) b run.old.flash.now run.old.spare.now run.old.disk.now }
+    ensures after { reached run.new result ≡ after s.sizes (copy s.sizes kind b (merged s.sizes (places_of s) (run_of run.old).device b)) (places_of s) (run_of run.old) }
+    ensures stays { Stays s.sizes run.old run.new }
+    ensures state_after { run.new.meter.cut ≡ false → bucket_bytes s.sizes (run_of run.new).device (cache_of b (places_of result).reads) ≡ merged s.sizes (places_of s) (run_of run.old).device b }
 {
     let room = room_of(s);
     let logs = gather::logs_of(s, b);
     let base = s.reads.find(b);
     let roomed = s.roomed();
     let state = roomed.take_copy(b);
-    let erased = erase_room(meter, s.sizes, room, flash, spare, disk);
+    erase_room(run, s.sizes, room);
     let target = log_in(room, kind, b, 0);
-    let left = fill_room(
-        erased,
+    let meter = run.meter;
+    run.meter = fill_room(
+        meter,
         s.sizes,
         target,
         logs.as_slice(),
         base,
-        flash,
-        spare,
-        disk,
+        run.flash,
+        run.spare,
+        run.disk,
     );
-    Turn { meter: left, state }
+    state
 }

@@ -7,18 +7,18 @@ ghost use Rattle.model.specs.Operations.{drain};
 ghost use Rattle.model.specs.Calls.{drain_call, carry_out, call};
 ghost use Rattle.geometry.specs.Geometry.{device, Lent};
 ghost use Rattle.meter.specs.Run.{running, run_all};
+ghost use Rattle.meter.specs.Lent.{run_of, LentTo, Stays};
 ghost use Rattle.state.specs.View.{places_of, view_of};
 ghost use Rattle.steps.specs.Turns.{reached, after};
 ghost use Rattle.outcome.specs.Handed.{handed_back, handed};
 ghost use Rattle.drain.specs.Listed.{Drains, Listed};
 
-use meter::Meter;
+use meter::{Meter, Run};
 use model::Answer;
 use outcome::Outcome;
 use state::State;
-use steps::Turn;
 
-// The units of each listed back-end bucket, in rising order.
+// The units of each listed back-end bucket, in rising order: from one listed number to the next, which no `for` counts.
 fn write_listed(
     meter: Meter,
     s: State,
@@ -42,25 +42,41 @@ fn write_listed(
     left
 }
 
-// All stores of the drain, and the state that it leaves. What to write is worked out before the first store.
-pub fn drain_queues(
+// Chip and disk are lent on; the disk alone is written.
+fn write_units(
     meter: Meter,
     s: State,
+    backs: &[u16],
     flash: &mut [u8],
     spare: &mut [u8],
     disk: &mut [u8],
-) -> Turn
+) -> Meter
     requires lent { Lent s.sizes flash.old spare.old disk.old }
-    requires drains { Drains (places_of s) spare.old }
-    ensures result_after { reached flash.new spare.new disk.new result ≡ after s.sizes (drain s.sizes) (places_of s) (running flash.old spare.old disk.old meter) }
-    ensures lent_2 { Lent s.sizes flash.new spare.new disk.new }
+    requires listed { Listed (places_of s) spare.old backs.now }
+    ensures after { running flash.new spare.new disk.new result ≡ run_all s.sizes (drain s.sizes (places_of s) (device flash.old spare.old disk.old)).stores (running flash.old spare.old disk.old meter) }
+    ensures lent_after { Lent s.sizes flash.new spare.new disk.new }
 {
-    let work = unclean::drained(s, spare);
-    let backs = work.backs;
-    let count = work.count;
-    let state = work.state;
-    let left = write_listed(meter, s, &backs[..count], flash, spare, disk);
-    Turn { meter: left, state }
+    write_listed(meter, s, backs, flash, spare, disk)
+}
+
+// All stores of the drain, and the state that it leaves. What to write is worked out before the first store.
+pub fn drain_queues(run: &mut Run<'_>, s: State) -> State
+    requires lent { LentTo s.sizes run.old }
+    requires drains { Drains (places_of s) run.old.spare.now }
+    ensures after { reached run.new result ≡ after s.sizes (drain s.sizes) (places_of s) (run_of run.old) }
+    ensures stays { Stays s.sizes run.old run.new }
+{
+    let work = unclean::drained(s, run.spare());
+    let meter = run.meter;
+    run.meter = write_units(
+        meter,
+        s,
+        &work.backs[..work.count],
+        run.flash,
+        run.spare,
+        run.disk,
+    );
+    work.state
 }
 
 fn drain_whole(
@@ -74,11 +90,14 @@ fn drain_whole(
     requires drains { Drains (places_of s) spare.old }
     ensures { handed_back (device flash.new spare.new disk.new) [] result ≡ handed s (carry_out allowance drain_call (places_of s) (device flash.old spare.old disk.old) (drain s.sizes (places_of s) (device flash.old spare.old disk.old))) }
 {
-    let whole = Meter::whole(allowance);
-    let turn = drain_queues(whole, s, flash, spare, disk);
-    let left = turn.meter;
-    let state = turn.state;
-    outcome::finish(left, allowance, Answer::Done, s, state)
+    let mut run = Run {
+        flash,
+        spare,
+        disk,
+        meter: Meter::whole(allowance),
+    };
+    let state = drain_queues(&mut run, s);
+    outcome::finish(run.meter, allowance, Answer::Done, s, state)
 }
 
 // The entry.

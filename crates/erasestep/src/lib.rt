@@ -9,7 +9,7 @@ ghost use Rattle.state.specs.View.{places_of, view_of};
 ghost use Rattle.steps.specs.Ready.{Orderly};
 ghost use Rattle.outcome.specs.Handed.{handed_back, handed};
 
-use meter::Meter;
+use meter::{Meter, Run};
 use model::Answer;
 use outcome::Outcome;
 use state::State;
@@ -34,11 +34,14 @@ fn erase_head(
     ensures { handed_back (device flash.new spare.new disk.new) [] result ≡ handed s (carry_out allowance erase_call (places_of s) (device flash.old spare.old disk.old) (erase_step s.sizes (places_of s) (device flash.old spare.old disk.old))) }
 {
     let full = full_answer(s);
-    let whole = Meter::whole(allowance);
-    let turn = steps::erase_step(whole, s, flash, spare, disk);
-    let left = turn.meter;
-    let state = turn.state;
-    outcome::finish(left, allowance, full, s, state)
+    let mut run = Run {
+        flash,
+        spare,
+        disk,
+        meter: Meter::whole(allowance),
+    };
+    let state = steps::erase_step(&mut run, s);
+    outcome::finish(run.meter, allowance, full, s, state)
 }
 
 // The entry.

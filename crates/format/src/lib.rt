@@ -8,28 +8,27 @@ ghost use Rattle.model.specs.Operations.{format};
 ghost use Rattle.model.specs.Calls.{format_call, carry_out, call};
 ghost use Rattle.model.proofs.Limits.{Limits};
 ghost use Rattle.geometry.specs.Geometry.{device, Lent};
-ghost use Rattle.meter.specs.Run.{running, run_all};
+ghost use Rattle.meter.specs.Run.{run_all};
+ghost use Rattle.meter.specs.Lent.{run_of, LentTo, Stays};
 ghost use Rattle.state.specs.View.{places_of, view_of};
 ghost use Rattle.outcome.specs.Handed.{handed_back, handed};
 
 use fifo::Fifo;
-use meter::Meter;
+use meter::{Meter, Run};
 use model::{Answer, Sizes};
 use outcome::Outcome;
 use queue::Queue;
 use state::State;
 
 // Erases all buckets in rising order.
-fn erase_all(meter: Meter, z: Sizes, flash: &mut [u8], spare: &mut [u8], disk: &mut [u8]) -> Meter
-    requires { Lent z flash.old spare.old disk.old }
-    ensures result_after { running flash.new spare.new disk.new result ≡ run_all z (map erase (below z.c)) (running flash.old spare.old disk.old meter) }
-    ensures lent { Lent z flash.new spare.new disk.new }
+fn erase_all(run: &mut Run<'_>, z: Sizes)
+    requires { LentTo z run.old }
+    ensures after { run_of run.new ≡ run_all z (map erase (below z.c)) (run_of run.old) }
+    ensures stays { Stays z run.old run.new }
 {
-    let mut run = meter;
     for bucket in 0..z.c {
-        run = meter::erase_bucket(run, z, bucket, flash, spare, disk);
+        run.erase(z, bucket);
     }
-    run
 }
 
 fn formatted(z: Sizes) -> State
@@ -60,10 +59,15 @@ fn format_chip(
     requires lent { Lent z flash.old spare.old disk.old }
     ensures { handed_back (device flash.new spare.new disk.new) [] result ≡ handed s (carry_out allowance (format_call z) (view_of s) (device flash.old spare.old disk.old) (format z)) }
 {
-    let whole = Meter::whole(allowance);
-    let after = erase_all(whole, z, flash, spare, disk);
+    let mut run = Run {
+        flash,
+        spare,
+        disk,
+        meter: Meter::whole(allowance),
+    };
+    erase_all(&mut run, z);
     let new = formatted(z);
-    outcome::finish(after, allowance, Answer::Done, s, new)
+    outcome::finish(run.meter, allowance, Answer::Done, s, new)
 }
 
 // The entry. The sizes are its own: the state's are not looked at.

@@ -5,12 +5,13 @@
 ghost use Rattle.std.specs.Prelude.{◌≡◌, ◌+◌, ◌*◌, ◌≤◌, ◌<◌, length};
 ghost use Rattle.model.specs.Sizes.{spare_size, page_index, pages_for};
 ghost use Rattle.lists.specs.Lists.{splice, ff};
-ghost use Rattle.geometry.specs.Geometry.{Lent};
-ghost use Rattle.meter.specs.Run.{running, step, run_all};
+ghost use Rattle.spare.specs.Fields.{tag};
+ghost use Rattle.meter.specs.Run.{step, run_all};
+ghost use Rattle.meter.specs.Lent.{run_of, LentTo, Stays};
 ghost use Rattle.log_pages.specs.Logs.{page_tag, tags, store_of, page_store, all_stores, Fits};
 
 use device::Store;
-use meter::Meter;
+use meter::Run;
 use model::Sizes;
 use spare::Fields;
 
@@ -43,26 +44,15 @@ fn page_tag(z: Sizes, log: Log, n: usize, o: usize) -> [u8; 16]
 }
 
 // Programs page o of a log of n bytes; the page is lent.
-fn program_lent(
-    meter: Meter,
-    z: Sizes,
-    log: Log,
-    n: usize,
-    o: usize,
-    page: &[u8],
-    flash: &mut [u8],
-    spare: &mut [u8],
-    disk: &mut [u8],
-) -> Meter
-    requires lent { Lent z flash.old spare.old disk.old }
+fn program_lent(run: &mut Run<'_>, z: Sizes, log: Log, n: usize, o: usize, page: &[u8])
+    requires lent { LentTo z run.old }
     requires fits { Fits z log n × (o < pages_for z n) × (length page.now ≡ z.s) }
-    ensures result_after { running flash.new spare.new disk.new result ≡ step z (store_of z log n o page.now) (running flash.old spare.old disk.old meter) }
-    ensures lent_2 { Lent z flash.new spare.new disk.new }
+    ensures after { run_of run.new ≡ step z (store_of z log n o page.now) (run_of run.old) }
+    ensures stays { Stays z run.old run.new }
 {
     let tag = page_tag(z, log, n, o);
     let at = log.first + o;
-    meter::store(
-        meter,
+    run.store(
         Store::Program {
             bucket: log.bucket,
             page: at,
@@ -70,59 +60,38 @@ fn program_lent(
         z,
         page,
         &tag,
-        flash,
-        spare,
-        disk,
-    )
+    );
 }
 
 // Page o of the log. A whole page needs no copy of its bytes; what there is of the last is laid over FF: a page has at most 1,024 bytes.
-fn program_page(
-    meter: Meter,
-    z: Sizes,
-    log: Log,
-    bytes: &[u8],
-    o: usize,
-    flash: &mut [u8],
-    spare: &mut [u8],
-    disk: &mut [u8],
-) -> Meter
-    requires lent { Lent z flash.old spare.old disk.old }
+fn program_page(run: &mut Run<'_>, z: Sizes, log: Log, bytes: &[u8], o: usize)
+    requires lent { LentTo z run.old }
     requires fits { Fits z log (length bytes.now) × (o < pages_for z (length bytes.now)) }
-    ensures result_after { running flash.new spare.new disk.new result ≡ step z (page_store z log bytes.now o) (running flash.old spare.old disk.old meter) }
-    ensures lent_2 { Lent z flash.new spare.new disk.new }
+    ensures after { run_of run.new ≡ step z (page_store z log bytes.now o) (run_of run.old) }
+    ensures stays { Stays z run.old run.new }
 {
     let n = bytes.len();
     let rest = &bytes[o * z.s..];
     if z.s <= rest.len() {
-        return program_lent(meter, z, log, n, o, &rest[..z.s], flash, spare, disk);
+        program_lent(run, z, log, n, o, &rest[..z.s]);
+        return;
     }
     let mut page = [255u8; 1024];
     page[..rest.len()].copy_from_slice(rest);
-    program_lent(meter, z, log, n, o, &page[..z.s], flash, spare, disk)
+    program_lent(run, z, log, n, o, &page[..z.s]);
 }
 
 // All pages of the log, in rising order.
-pub fn program_log(
-    meter: Meter,
-    z: Sizes,
-    log: Log,
-    bytes: &[u8],
-    flash: &mut [u8],
-    spare: &mut [u8],
-    disk: &mut [u8],
-) -> Meter
-    requires lent { Lent z flash.old spare.old disk.old }
+pub fn program_log(run: &mut Run<'_>, z: Sizes, log: Log, bytes: &[u8])
+    requires lent { LentTo z run.old }
     requires fits { Fits z log (length bytes.now) }
-    ensures result_after { running flash.new spare.new disk.new result ≡ run_all z (all_stores z log bytes.now) (running flash.old spare.old disk.old meter) }
-    ensures lent_2 { Lent z flash.new spare.new disk.new }
+    ensures after { run_of run.new ≡ run_all z (all_stores z log bytes.now) (run_of run.old) }
+    ensures stays { Stays z run.old run.new }
 {
     let pages = geometry::pages_for(z, bytes.len());
-    let mut run = meter;
     for o in 0..pages {
-        run = program_page(run, z, log, bytes, o, flash, spare, disk);
+        program_page(run, z, log, bytes, o);
     }
-    run
 }
 
 // Writes the spare bytes of page o of a log of n bytes.

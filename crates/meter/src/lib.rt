@@ -2,10 +2,10 @@
 #![tactic(auto)]
 
 ghost use Rattle.std.specs.Prelude.{◌≡◌, false, ◌<◌};
-ghost use Rattle.geometry.specs.Geometry.{Lent};
 ghost use Rattle.model.specs.Stores.{erase};
 ghost use Rattle.device.specs.Made.{made, Placed};
-ghost use Rattle.meter.specs.Run.{running, allowed, spent, step};
+ghost use Rattle.meter.specs.Run.{allowed, spent, step};
+ghost use Rattle.meter.specs.Lent.{run_of, LentTo, Stays};
 
 use device::Store;
 use model::Sizes;
@@ -28,29 +28,53 @@ impl Meter {
     }
 }
 
-// After a cut an operation goes on asking, and nothing more is made.
-pub fn store(
-    meter: Meter,
-    what: Store,
-    z: Sizes,
-    data: &[u8],
-    tag: &[u8; 16],
-    flash: &mut [u8],
-    spare: &mut [u8],
-    disk: &mut [u8],
-) -> Meter
-    requires lent { Lent z flash.old spare.old disk.old }
-    requires placed { Placed z (made what «data».now tag.now) }
-    ensures result_after { running flash.new spare.new disk.new result ≡ step z (made what «data».now tag.now) (running flash.old spare.old disk.old meter) }
-    ensures lent_2 { Lent z flash.new spare.new disk.new }
-{
-    if meter.left == 0 {
-        return Meter { left: 0, cut: true };
+// An operation under way: chip and disk as they are lent to it, and what is left of its allowance.
+#[derive(Drop)]
+pub struct Run<'a> {
+    pub flash: &'a mut [u8],
+    pub spare: &'a mut [u8],
+    pub disk: &'a mut [u8],
+    pub meter: Meter,
+}
+
+impl<'a> Run<'a> {
+    // After a cut an operation goes on asking, and nothing more is made.
+    pub fn store(&mut self, what: Store, z: Sizes, data: &[u8], tag: &[u8; 16])
+        requires lent { LentTo z self.old }
+        requires placed { Placed z (made what «data».now tag.now) }
+        ensures after { run_of self.new ≡ step z (made what «data».now tag.now) (run_of self.old) }
+        ensures stays { Stays z self.old self.new }
+    {
+        if self.meter.left == 0 {
+            self.meter.cut = true;
+            return;
+        }
+        device::carry_out(what, z, data, tag, self.flash, self.spare, self.disk);
+        self.meter.left -= 1;
     }
-    device::carry_out(what, z, data, tag, flash, spare, disk);
-    Meter {
-        left: meter.left - 1,
-        ..meter
+
+    // The data bytes of the chip, to be looked at.
+    pub fn flash(&self) -> &[u8]
+        ensures { result.now ≡ self.now.flash.now }
+    {
+        self.flash
+    }
+
+    // Its spare area.
+    pub fn spare(&self) -> &[u8]
+        ensures { result.now ≡ self.now.spare.now }
+    {
+        self.spare
+    }
+
+    // Erases a bucket of the chip.
+    pub fn erase(&mut self, z: Sizes, bucket: usize)
+        requires lent { LentTo z self.old }
+        requires bucket_lt_c { bucket < z.c }
+        ensures after { run_of self.new ≡ step z (erase bucket) (run_of self.old) }
+        ensures stays { Stays z self.old self.new }
+    {
+        self.store(Store::Erase { bucket }, z, &[0; 1], &[0; 16]);
     }
 }
 
@@ -69,32 +93,4 @@ pub fn spent(meter: Meter, n: usize) -> Meter
         left: meter.left.saturating_sub(n),
         cut: meter.cut | (meter.left < n),
     }
-}
-
-// Erases a bucket of the chip.
-pub fn erase_bucket(
-    meter: Meter,
-    z: Sizes,
-    bucket: usize,
-    flash: &mut [u8],
-    spare: &mut [u8],
-    disk: &mut [u8],
-) -> Meter
-    requires lent { Lent z flash.old spare.old disk.old }
-    requires bucket_lt_c { bucket < z.c }
-    ensures result_after { running flash.new spare.new disk.new result ≡ step z (erase bucket) (running flash.old spare.old disk.old meter) }
-    ensures lent_2 { Lent z flash.new spare.new disk.new }
-{
-    let no_data = [0u8; 1];
-    let no_tag = [0u8; 16];
-    store(
-        meter,
-        Store::Erase { bucket },
-        z,
-        &no_data,
-        &no_tag,
-        flash,
-        spare,
-        disk,
-    )
 }

@@ -10,13 +10,13 @@ ghost use Rattle.model.specs.Ledger.{in_use, other_of};
 ghost use Rattle.model.specs.Steps.{entry_stores, noted_erase};
 ghost use Rattle.model.proofs.Limits.{Limits};
 ghost use Rattle.model.proofs.ProgramsLedger.{entry_room};
-ghost use Rattle.geometry.specs.Geometry.{device, Lent};
-ghost use Rattle.meter.specs.Run.{running, run_all};
+ghost use Rattle.meter.specs.Run.{run_all};
+ghost use Rattle.meter.specs.Lent.{run_of, LentTo, Stays};
 ghost use Rattle.image.specs.Chip.{Chip, spare_only};
 ghost use Rattle.noted.specs.Costs.{Costs};
 
 use log_pages::Log;
-use meter::Meter;
+use meter::Run;
 use model::Sizes;
 
 // The ledger bucket that entries go to: the one that is not blank, else the lower.
@@ -51,21 +51,11 @@ fn other_of(z: Sizes, used: usize) -> usize
 }
 
 // An entry for the bucket, on page k of the ledger bucket l: a log of one byte FF.
-fn program_entry(
-    meter: Meter,
-    z: Sizes,
-    l: usize,
-    k: usize,
-    epoch: u32,
-    bucket: usize,
-    flash: &mut [u8],
-    spare: &mut [u8],
-    disk: &mut [u8],
-) -> Meter
-    requires lent { Lent z flash.old spare.old disk.old }
+fn program_entry(run: &mut Run<'_>, z: Sizes, l: usize, k: usize, epoch: u32, bucket: usize)
+    requires lent { LentTo z run.old }
     requires limits { Limits z × (l < z.c) × (k < z.p) × (bucket < z.c) }
-    ensures result_after { running flash.new spare.new disk.new result ≡ run_all z (program l k (ff z.s) (entry_tag epoch bucket) ∷ []) (running flash.old spare.old disk.old meter) }
-    ensures lent_2 { Lent z flash.new spare.new disk.new }
+    ensures after { run_of run.new ≡ run_all z (program l k (ff z.s) (entry_tag epoch bucket) ∷ []) (run_of run.old) }
+    ensures stays { Stays z run.old run.new }
 {
     let byte = [255u8; 1];
     let entry = Log {
@@ -76,50 +66,38 @@ fn program_entry(
         back: bucket as u16,
         offset: 0,
     };
-    log_pages::program_log(meter, z, entry, &byte, flash, spare, disk)
+    log_pages::program_log(run, z, entry, &byte);
 }
 
 // The entry; a full ledger bucket is erased once the other has it.
-fn note(
-    meter: Meter,
-    z: Sizes,
-    bucket: usize,
-    flash: &mut [u8],
-    spare: &mut [u8],
-    disk: &mut [u8],
-) -> Meter
-    requires lent { Lent z flash.old spare.old disk.old }
+fn note(run: &mut Run<'_>, z: Sizes, bucket: usize)
+    requires lent { LentTo z run.old }
     requires limits { Limits z × (bucket < z.c) }
-    ensures result_after { running flash.new spare.new disk.new result ≡ run_all z (entry_stores z (device flash.old spare.old disk.old) bucket) (running flash.old spare.old disk.old meter) }
-    ensures lent_2 { Lent z flash.new spare.new disk.new }
+    ensures after { run_of run.new ≡ run_all z (entry_stores z (run_of run.old).device bucket) (run_of run.old) }
+    ensures stays { Stays z run.old run.new }
 {
+    let spare = run.spare();
     let used = in_use(z, spare);
     let room = image::blanks(z, used, spare);
     let epoch = image::epoch_of(z, bucket, spare);
     if room != 0 {
         let first = z.p - room;
-        return program_entry(meter, z, used, first, epoch, bucket, flash, spare, disk);
+        program_entry(run, z, used, first, epoch, bucket);
+        return;
     }
     let other = other_of(z, used);
-    let noted = program_entry(meter, z, other, 0, epoch, bucket, flash, spare, disk);
-    meter::erase_bucket(noted, z, used, flash, spare, disk)
+    program_entry(run, z, other, 0, epoch, bucket);
+    run.erase(z, used);
 }
 
-pub fn erase_noted(
-    meter: Meter,
-    z: Sizes,
-    bucket: usize,
-    flash: &mut [u8],
-    spare: &mut [u8],
-    disk: &mut [u8],
-) -> Meter
-    requires lent { Lent z flash.old spare.old disk.old }
+pub fn erase_noted(run: &mut Run<'_>, z: Sizes, bucket: usize)
+    requires lent { LentTo z run.old }
     requires limits { Limits z × (bucket < body z) }
-    ensures result_after { running flash.new spare.new disk.new result ≡ run_all z (noted_erase z (device flash.old spare.old disk.old) bucket) (running flash.old spare.old disk.old meter) }
-    ensures lent_2 { Lent z flash.new spare.new disk.new }
+    ensures after { run_of run.new ≡ run_all z (noted_erase z (run_of run.old).device bucket) (run_of run.old) }
+    ensures stays { Stays z run.old run.new }
 {
-    let noted = note(meter, z, bucket, flash, spare, disk);
-    meter::erase_bucket(noted, z, bucket, flash, spare, disk)
+    note(run, z, bucket);
+    run.erase(z, bucket);
 }
 
 // What an erase with its entry comes to: its stores, and the blank pages that the ledger bucket in use has then.

@@ -28,9 +28,17 @@ pub tally_none : (before : List ℕ) → length before ≡ 256 → Tallied befor
 unfolding times
 tally_none before n = (n, λ x h. sym (add-zero (get_or before x 0)))
 
--- no count is too high for one more
-pub tally_low : (before l counts : List ℕ) (x : ℕ) → x < 256 → Few before → Tallied before l counts → length l ≤ 256 → get_or counts x 0 ≤ 1280
-tally_low before l counts x h few told n = omega (arith, few.1 x h, told.1 x h, times_few x l)
+-- no count is higher by more than one
+pub low_more : (counts : List ℕ) (y n : ℕ) → y < 256 → length counts ≡ 256 → ((x : ℕ) → x < 256 → get_or counts x 0 ≤ n)
+    → (x : ℕ) → x < 256 → get_or (set counts y (get_or counts y 0 + 1)) x 0 ≤ n + 1
+low_more counts y n h places low x k = go (ℕ_discrete x y)
+  where
+    go : Dec (x ≡ y) → get_or (set counts y (get_or counts y 0 + 1)) x 0 ≤ n + 1
+    go (yes e) =
+        let own : get_or (set counts y (get_or counts y 0 + 1)) x 0 ≡ get_or counts y 0 + 1 =
+        ap (λ (j : ℕ). get_or (set counts y (get_or counts y 0 + 1)) j 0) e ∙ get_or-set_same counts y (get_or counts y 0 + 1) 0 (omega arith) in
+        omega (arith, own, low y h)
+    go (no d) = omega (arith, get_or-set_other counts y x (get_or counts y 0 + 1) 0 d, low x k)
 
 -- one more number
 pub tally_step : (before l counts : List ℕ) (y : ℕ) → y < 256 → Tallied before l counts → Tallied before (l ++ (y ∷ [])) (set counts y (get_or counts y 0 + 1))

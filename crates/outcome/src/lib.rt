@@ -46,7 +46,7 @@ pub fn finish(m: Meter, allowance: usize, full: Answer, old: State, new: State) 
     }
 }
 
-// A call that is turned down gives the struct back as it came.
+// A call that is turned down gives the struct back as it came. By the number, which the book's `Refused` has.
 pub fn refused(number: u8, s: State) -> Outcome
     ensures { result ≡ turned number s }
 {

@@ -12,6 +12,7 @@ ghost use Rattle.queue.specs.View.{entries_of, no_entry, queue_of, found};
 
 use model::Entry;
 
+// A type beside `Fifo`: a crate gives no methods to another's generic type, and a struct around one would only pass calls on.
 #[derive(Clone, Copy)]
 pub struct Queue {
     pub items: [Entry; 64],

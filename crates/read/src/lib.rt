@@ -12,7 +12,7 @@ ghost use Rattle.model.specs.Operations.{last_epoch, touch, is_current, make_pla
 ghost use Rattle.model.specs.Calls.{read_call, carry_out, call};
 ghost use Rattle.model.proofs.Limits.{Limits};
 ghost use Rattle.geometry.specs.Geometry.{device, Lent};
-ghost use Rattle.meter.specs.Run.{running};
+ghost use Rattle.meter.specs.Lent.{run_of, LentTo, Stays};
 ghost use Rattle.queue.specs.View.{entries_of};
 ghost use Rattle.state.specs.View.{places_of, view_of};
 ghost use Rattle.gather.specs.Sources.{Sources};
@@ -22,11 +22,10 @@ ghost use Rattle.outcome.specs.Handed.{handed_back, handed};
 ghost use Rattle.oldest.specs.Drops.{Drops};
 ghost use Rattle.read.specs.Reads.{Reads, copy_handed};
 
-use meter::Meter;
+use meter::{Meter, Run};
 use model::{Answer, Sizes};
 use outcome::Outcome;
 use state::State;
-use steps::Turn;
 
 // Nothing is stored: the bytes asked for are gathered in the buffer itself.
 fn answer(
@@ -61,48 +60,30 @@ fn copy_kind(s: State, b: u16) -> u8
 }
 
 // Unless b has a read bucket, whose place the copy takes, the least recent one gives way.
-fn make_place(
-    meter: Meter,
-    s: State,
-    b: u16,
-    flash: &mut [u8],
-    spare: &mut [u8],
-    disk: &mut [u8],
-) -> Turn
-    requires lent { Lent s.sizes flash.old spare.old disk.old }
+fn make_place(run: &mut Run<'_>, s: State, b: u16) -> State
+    requires lent { LentTo s.sizes run.old }
     requires drops { Drops (places_of s) }
-    ensures result_after { reached flash.new spare.new disk.new result ≡ after s.sizes (make_place s.sizes b) (places_of s) (running flash.old spare.old disk.old meter) }
-    ensures lent_2 { Lent s.sizes flash.new spare.new disk.new }
+    ensures after { reached run.new result ≡ after s.sizes (make_place s.sizes b) (places_of s) (run_of run.old) }
+    ensures stays { Stays s.sizes run.old run.new }
 {
     if s.reads.holds(b) {
-        return Turn { meter, state: s };
+        return s;
     }
-    oldest::drop_oldest(meter, s, flash, spare, disk)
+    oldest::drop_oldest(run, s)
 }
 
 // The bytes of b are programmed as its read bucket; its logs, if it has any, are all in it then.
-fn make_copy(
-    meter: Meter,
-    s: State,
-    b: u16,
-    flash: &mut [u8],
-    spare: &mut [u8],
-    disk: &mut [u8],
-) -> Turn
-    requires sources { Sources (places_of s) b flash.old spare.old disk.old }
+fn make_copy(run: &mut Run<'_>, s: State, b: u16) -> State
+    requires sources { Sources (places_of s) b run.old.flash.now run.old.spare.now run.old.disk.now }
     requires drops { Drops (places_of s) × Single (places_of s) × (s.next ≤ last_epoch) }
-    ensures result_after { reached flash.new spare.new disk.new result ≡ after s.sizes (read_copy s.sizes b (merged s.sizes (places_of s) (device flash.old spare.old disk.old) b)) (places_of s) (running flash.old spare.old disk.old meter) }
-    ensures lent { Lent s.sizes flash.new spare.new disk.new }
-    ensures state_after { result.meter.cut ≡ false → bucket_bytes s.sizes (device flash.new spare.new disk.new) (cache_of b (places_of result.state).reads) ≡ merged s.sizes (places_of s) (device flash.old spare.old disk.old) b }
+    ensures after { reached run.new result ≡ after s.sizes (read_copy s.sizes b (merged s.sizes (places_of s) (run_of run.old).device b)) (places_of s) (run_of run.old) }
+    ensures stays { Stays s.sizes run.old run.new }
+    ensures state_after { run.new.meter.cut ≡ false → bucket_bytes s.sizes (run_of run.new).device (cache_of b (places_of result).reads) ≡ merged s.sizes (places_of s) (run_of run.old).device b }
 {
     let kind = copy_kind(s, b);
-    let place = make_place(meter, s, b, flash, spare, disk);
-    let rest = place.meter;
-    let room = place.state;
-    let made = copying::copy(rest, room, kind, b, flash, spare, disk);
-    let left = made.meter;
-    let state = made.state.set_mark(b);
-    Turn { meter: left, state }
+    let placed = make_place(run, s, b);
+    let made = copying::copy(run, placed, kind, b);
+    made.set_mark(b)
 }
 
 // The bytes asked for, from the copy just made, unless the read was cut.
@@ -133,20 +114,23 @@ fn copy_read(
     requires next_le_last_epoch { s.next ≤ last_epoch }
     ensures { handed_back (device flash.new spare.new disk.new) buffer.new result ≡ copy_handed allowance s b offset buffer.old (device flash.old spare.old disk.old) }
 {
-    let whole = Meter::whole(allowance);
-    let turn = make_copy(whole, s, b, flash, spare, disk);
-    let left = turn.meter;
-    let state = turn.state;
+    let mut run = Run {
+        flash,
+        spare,
+        disk,
+        meter: Meter::whole(allowance),
+    };
+    let state = make_copy(&mut run, s, b);
     let copy = state.reads.find(b).unwrap();
     show(
-        left.cut,
+        run.meter.cut,
         s.sizes,
         copy.cache as usize,
         offset,
-        flash,
+        run.flash(),
         buffer,
     );
-    outcome::finish(left, allowance, Answer::Done, s, state)
+    outcome::finish(run.meter, allowance, Answer::Done, s, state)
 }
 
 // With fewer than two epochs left, or with a read bucket that has all logs.

@@ -8,17 +8,17 @@ use native.Mathlib.Omega.{arith}
 use lib.ListN.{length, take, drop, get_or, length-append, length-map}
 use lib.Seq.{take_at, length-take-le}
 use lib.Dec.{eqb}
-use borrow.Author.Tests.{lt-ltb, eq-eqb, ne_eqb}
+use borrow.Author.Tests.{eq-eqb, ne_eqb}
 use Rattle.std.specs.Prelude.{if◌then◌else◌}
-use Rattle.lists.specs.Lists.{all, keep, member, times, below}
+use Rattle.lists.specs.Lists.{keep, member, times, below}
 use Rattle.lists.proofs.Tests.{and_left}
-use Rattle.lists.proofs.Counts.{in_all, length_once, times_self, times_cons}
+use Rattle.lists.proofs.Counts.{length_once, times_self, times_cons}
 use Rattle.lists.proofs.Orders.{kept_below}
 use Rattle.lists.proofs.Filters.{keep_both, keep_agree, keep_all, member_kept}
 use Rattle.model.specs.declared.Sizes.{Sizes}
 use Rattle.model.specs.Sizes.{Device, body}
 use Rattle.model.specs.Image.{used, back_of, is_write}
-use Rattle.model.specs.State.{is_below, queued}
+use Rattle.model.specs.State.{queued}
 use Rattle.model.specs.Recover.{buckets, by_epoch, among_newest, newest, is_chosen, is_only, kept_writes, is_dropped_write, is_remaining, kept_copies, is_dropped_copy, is_old_copy, is_spent, kept_read, kept_write, rebuilt}
 use Rattle.model.proofs.Limits.{Limits}
 use Rattle.model.proofs.Formed.{Formed}
@@ -26,22 +26,11 @@ use Rattle.model.proofs.BucketKinds.{complete-copy, copy-used, write-used}
 use Rattle.model.proofs.RecoverChoice.{chosen_of, old_is, dropped_copy, dropped_write}
 use Rattle.model.proofs.Inside.{places_queued}
 use Rattle.model.proofs.RecoverQueues.{once_recovered, few_reads_recovered, few_writes_recovered}
-use Rattle.image.specs.Chip.{Chip}
-use Rattle.rescue.specs.Sources.{Recoverable}
+use Rattle.rescue.proofs.Standing.{order_length, column-length}
 use Rattle.classes.specs.Columns.{nowhere, in_order, named, column, is_named}
 use Rattle.classes.proofs.Columns.{below-nowhere, is_named_lem}
-use Rattle.classes.proofs.Orders.{filtered, in_order_lem, order_short}
+use Rattle.classes.proofs.Orders.{filtered, in_order_lem}
 use Rattle.recover.specs.Kept.{picked, differing, retired}
-
-pub chip_of : {z : Sizes} {flash spare disk : List ℕ} → Recoverable z flash spare disk → Chip z spare
-chip_of sound = record { limits = sound.limits; spare_length = sound.lent.spare_length }
-
--- a column that was filled in the front of an array, lent again
-lent_again : (n : ℕ) (room : List ℕ) {last column : List ℕ} → last ≡ column → length column ≡ n → take n (last ++ drop n room) ≡ column
-lent_again n room {last} e l = take_at last (drop n room) n (ap length e ∙ l) ∙ e
-
-lent_fits : (n : ℕ) (room : List ℕ) {last column : List ℕ} → last ≡ column → length column ≡ n → n ≤ length (last ++ drop n room)
-lent_fits n room {last} e l = omega (arith, length-append last (drop n room), ap length e)
 
 -- ---- one turn of a loop
 
@@ -150,32 +139,15 @@ module _ (z : Sizes) (d : Device) (limits : Limits z) (formed : Formed z d) wher
 -- ---- the GC queue, group by group
 
 module _ (z : Sizes) (d : Device) where
-  pub order_within : all (is_below (body z)) (in_order z d) ≡ true
-  unfolding is_below
-  order_within = in_all (is_below (body z)) (in_order z d) (λ c q. lt-ltb c (body z) (in_order_lem z d c q).1)
-
-  -- the order has a place in an array
-  pub order_fits : Limits z → {order : List ℕ} → order ≡ in_order z d → length order ≤ 256
-  order_fits l e = omega (arith, ap length e, order_short z d, l.ledger_in, l.c_high)
-
-  pub column-length : {order beside : List ℕ} (t : ℕ → Bool) → order ≡ in_order z d → beside ≡ column z d t → length beside ≡ length order
-  column-length t e k = ap length k ∙ length-map (in_order z d) (named z d t) ∙ sym (ap length e)
-
-  -- a column beside the order, once it is filled in the front of an array
-  module _ (t : ℕ → Bool) {order : List ℕ} (o : order ≡ in_order z d) (room : List ℕ) {last : List ℕ} (e : last ≡ column z d t) where
-    pub column_again : take (length order) (last ++ drop (length order) room) ≡ column z d t
-    column_again = lent_again (length order) room e (column-length t o refl)
-
-    pub column_fits : length order ≤ length (last ++ drop (length order) room)
-    column_fits = lent_fits (length order) room e (column-length t o refl)
-
-    pub again-length : length (take (length order) (last ++ drop (length order) room)) ≡ length order
-    again-length = ap length column_again ∙ column-length t o refl
+  -- a column beside the order, filled in the front of an array and lent again
+  pub column_again : (t : ℕ → Bool) {order : List ℕ} → order ≡ in_order z d → (room : List ℕ) {last : List ℕ} → last ≡ column z d t
+      → take (length order) (last ++ drop (length order) room) ≡ column z d t
+  column_again t {order} o room {last} e = take_at last (drop (length order) room) (length order) (column-length z d t o e) ∙ e
 
   -- the front of an array that is lent for a column
   module _ (limits : Limits z) {order : List ℕ} (o : order ≡ in_order z d) (room : List ℕ) (size : length room ≡ 256) where
     pub room-fits : length order ≤ length room
-    room-fits = omega (arith, size, order_fits limits o)
+    room-fits = omega (arith, size, order_length z d limits o)
 
     pub room-length : length (take (length order) room) ≡ length order
     room-length = length-take-le (length order) room room-fits

@@ -24,17 +24,17 @@ use Rattle.meter.specs.declared.Meter.{Meter}
 use Rattle.meter.specs.Run.{Run, fresh, run_all}
 use Rattle.meter.proofs.Runs.{run_append, run_left, run_stopped, run_made}
 use Rattle.state.specs.declared.State.{State as Struct}
+use Rattle.steps.specs.Turns.{Progress, after}
 use Rattle.outcome.specs.Handed.{handed_back, handed, cut_short, finished}
 use Rattle.outcome.proofs.Ends.{handed_quiet}
 use Rattle.classes.proofs.SameSpare.{same_state}
 use Rattle.rescue.specs.Sources.{rescues}
-use Rattle.recover.specs.declared.Begun.{Begun}
 use Rattle.recover.specs.Stages.{rebuilding}
 use Rattle.recover.proofs.Swept.{swept-fits}
 
 module _ (z : Sizes) (d : Device) where
   -- the spare bytes alone say which epochs stand on the chip
-  pub same_top : top_epoch z (spare_only d.spare) ≡ top_epoch z d
+  same_top : top_epoch z (spare_only d.spare) ≡ top_epoch z d
   unfolding top_epoch entry_epoch ledger_tag tag_of
   same_top = rw (fun_ext (same-epoch z d))
 
@@ -44,18 +44,14 @@ module _ (z : Sizes) (d : Device) where
 
 -- ---- the units
 
-module _ (z : Sizes) (begun : Begun) (s : Struct) (d : Device) where
-  planned : rescues z d ≡ (rebuilt z d begun.next).stores
+module _ (z : Sizes) (next : ℕ) (r : Run) where
+  planned : rescues z r.device ≡ (rebuilt z r.device next).stores
   unfolding rescues rebuilt
   planned = refl
 
-  pub rebuilt-handed : {r : Run} → r ≡ run_all z (rescues z d) (record { device = d; meter = begun.meter })
-      → handed_back r.device [] (finished r.meter begun.allowance Done s (rebuilt z (spare_only d.spare) begun.next).state) ≡ rebuilding z begun s d
+  pub rebuilt_reached : {q : Run} → q ≡ run_all z (rescues z r.device) r → record { run = q; state = (rebuilt z (spare_only r.device.spare) next).state } ≡ rebuilding z next r
   unfolding rebuilding
-  rebuilt-handed {r} e =
-      ap (λ (t : State). handed_back r.device [] (finished r.meter begun.allowance Done s t)) (same_state z d begun.next)
-      ∙ ap (λ (q : Run). handed_back q.device [] (finished q.meter begun.allowance Done s (rebuilt z d begun.next).state))
-      (e ∙ ap (λ (ss : List Store). run_all z ss (record { device = d; meter = begun.meter })) planned)
+  rebuilt_reached e = rw (e, planned, same_state z r.device next)
 
 -- ---- the erases, and then the units or nothing
 
@@ -88,10 +84,9 @@ module _ (n : ℕ) (s : Struct) (v : State) (z : Sizes) (d : Device) {r : Run} (
     pub body_left : Limits z → Lengths z d → recoverable z d ≡ true → body_fits z (spare_only r.device.spare) ≡ true
     body_left B L found = same-body-fits z r.device ∙ rw swept_whole (swept-fits z B d L found)
 
-    pub whole_handed : rebuilding z (record { allowance = n; meter = r.meter; next = top_epoch z d + 1 }) s r.device ≡ handed s (carry_out n (recover_call z) v d (recover z d))
-    unfolding rebuilding recover sizes_of done_answer lent_buffer read_buffer
-    whole_handed =
-        let q = run_all z (rebuilt z r.device (top_epoch z d + 1)).stores r in
-        ap (λ (x : Device). handed_back q.device [] (finished q.meter n Done s (rebuilt z x (top_epoch z d + 1)).state)) swept_whole
-        ∙ handed_quiet n (recover_call z) s v d (recover z d) refl refl
-        (ap (λ (x : Device). run_all z (rebuilt z x (top_epoch z d + 1)).stores r) swept_whole ∙ ap (run_all z rest.stores) e ∙ sym (run_append z erases rest.stores (fresh d n)))
+    pub whole_recovered : {p : Progress} → p ≡ rebuilding z (top_epoch z (spare_only d.spare) + 1) r → p ≡ after z (λ w x. recover z x) v (fresh d n)
+    unfolding rebuilding after recover
+    whole_recovered q = q
+        ∙ ap (λ (t : ℕ). rebuilding z (t + 1) r) (same_top z d)
+        ∙ ap (λ (x : Device). record { run = run_all z (rebuilt z x (top_epoch z d + 1)).stores r; state = (rebuilt z x (top_epoch z d + 1)).state }) swept_whole
+        ∙ ap (λ (x : Run). record { run = x; state = rest.state }) (ap (run_all z rest.stores) e ∙ sym (run_append z erases rest.stores (fresh d n)))

@@ -6,15 +6,17 @@ ghost use Rattle.lists.specs.Lists.{all};
 ghost use Rattle.model.specs.Sizes.{body};
 ghost use Rattle.model.specs.Image.{is_write, body_fits};
 ghost use Rattle.model.specs.State.{is_below};
-ghost use Rattle.model.specs.Recover.{is_chosen, is_dropped_write, is_dropped_copy, rebuilt, recover};
+ghost use Rattle.model.specs.Recover.{is_dropped_write, rebuilt, recover};
 ghost use Rattle.model.specs.Calls.{recover_call, carry_out, call};
 ghost use Rattle.geometry.specs.Geometry.{device};
 ghost use Rattle.fifo.specs.View.{list_of};
 ghost use Rattle.queue.specs.View.{entries_of};
 ghost use Rattle.state.specs.View.{places_of, view_of};
+ghost use Rattle.meter.specs.Lent.{run_of, Stays};
+ghost use Rattle.steps.specs.Turns.{reached};
 ghost use Rattle.image.specs.Chip.{Chip, spare_only};
-ghost use Rattle.classes.specs.Columns.{in_order, column, Columns};
-ghost use Rattle.rescue.specs.Sources.{Recoverable};
+ghost use Rattle.classes.specs.Columns.{in_order, column};
+ghost use Rattle.rescue.specs.Sources.{RecoverableIn, Listed};
 ghost use Rattle.checks.proofs.Opens.{Found};
 ghost use Rattle.outcome.specs.Handed.{handed_back, handed};
 ghost use Rattle.recover.specs.Kept.{entry_of, picked, differing, retired};
@@ -22,19 +24,12 @@ ghost use Rattle.recover.specs.Stages.{rebuilding};
 
 use classes::Kind;
 use fifo::Fifo;
-use meter::Meter;
+use meter::{Meter, Run};
 use model::{Answer, Entry, Sizes};
 use outcome::Outcome;
 use queue::Queue;
+use rescue::Columns;
 use state::State;
-
-// Recovery behind its erases: the whole allowance, what is left of it, and the next epoch.
-#[derive(Clone, Copy)]
-struct Begun {
-    allowance: usize,
-    meter: Meter,
-    next: u64,
-}
 
 // The bucket's entry in a queue. The write queue counts its blank pages.
 fn entry_of(z: Sizes, c: u8, counted: bool, spare: &[u8]) -> Entry
@@ -95,55 +90,53 @@ fn gather(order: &[u8], column: &[u16], list: Fifo) -> Fifo
 }
 
 // Spent buckets by number; superseded and incomplete copies, dropped copies, dropped Write buckets, each by epoch.
-fn retired(
-    z: Sizes,
-    order: &[u8],
-    dropped_writes: &[u16],
-    copies: &[u16],
-    dropped_copies: &[u16],
-    spare: &[u8],
-) -> Fifo
+fn retired(z: Sizes, columns: Columns<'_>, spare: &[u8]) -> Fifo
     requires chip { Chip z spare.now }
     requires spare_value { body_fits z (spare_only spare.now) ≡ true }
-    requires order_value { order.now ≡ in_order z (spare_only spare.now) }
-    requires dropped_writes_value { dropped_writes.now ≡ column z (spare_only spare.now) (is_dropped_write z (spare_only spare.now)) }
-    requires copies_value { (copies.now ≡ column z (spare_only spare.now) (is_chosen z (spare_only spare.now))) × (dropped_copies.now ≡ column z (spare_only spare.now) (is_dropped_copy z (spare_only spare.now))) }
+    requires listed { Listed z spare.now columns }
     ensures { list_of result ≡ retired z (spare_only spare.now) }
 {
+    let order = columns.order;
     let n = order.len();
     let mut old = classes::blank_column();
-    classes::old_column(z, order, copies, spare, &mut old[..n]);
+    classes::old_column(z, order, columns.copies, spare, &mut old[..n]);
     let spent = classes::buckets(z, Kind::Spent, spare);
     let first = gather(order, &old[..n], spent);
-    let second = gather(order, dropped_copies, first);
-    gather(order, dropped_writes, second)
+    let second = gather(order, columns.dropped_copies, first);
+    gather(order, columns.dropped_writes, second)
 }
 
 // The state that a finished recovery leaves.
-fn recovered(
-    z: Sizes,
-    next: u64,
-    order: &[u8],
-    writes: &[u16],
-    dropped_writes: &[u16],
-    copies: &[u16],
-    dropped_copies: &[u16],
-    spare: &[u8],
-) -> State
+fn recovered(z: Sizes, next: u64, columns: Columns<'_>, spare: &[u8]) -> State
     requires chip { Chip z spare.now }
     requires spare_value { body_fits z (spare_only spare.now) ≡ true }
-    requires columns { Columns z (spare_only spare.now) order.now writes.now dropped_writes.now copies.now dropped_copies.now }
+    requires listed { Listed z spare.now columns }
     ensures { places_of result ≡ (rebuilt z (spare_only spare.now) next).state }
 {
-    let reads = kept_queue(z, order, copies, dropped_copies, false, spare);
-    let queued = kept_queue(z, order, writes, dropped_writes, true, spare);
-    let gc = retired(z, order, dropped_writes, copies, dropped_copies, spare);
+    let order = columns.order;
+    let reads = kept_queue(
+        z,
+        order,
+        columns.copies,
+        columns.dropped_copies,
+        false,
+        spare,
+    );
+    let writes = kept_queue(
+        z,
+        order,
+        columns.writes,
+        columns.dropped_writes,
+        true,
+        spare,
+    );
+    let gc = retired(z, columns, spare);
     let free = classes::buckets(z, Kind::Free, spare);
     State {
         sizes: z,
         running: true,
         reads,
-        writes: queued,
+        writes,
         gc,
         free,
         accepted: 0,
@@ -152,66 +145,31 @@ fn recovered(
 }
 
 // The state is that of the spare area before the units.
-fn rebuild_by(
-    s: State,
-    z: Sizes,
-    begun: Begun,
-    order: &[u8],
-    writes: &[u16],
-    dropped_writes: &[u16],
-    copies: &[u16],
-    dropped_copies: &[u16],
-    flash: &mut [u8],
-    spare: &mut [u8],
-    disk: &mut [u8],
-) -> Outcome
-    requires recoverable { Recoverable z flash.old spare.old disk.old }
-    requires left_le_allowance { begun.meter.left ≤ begun.allowance }
-    requires columns { Columns z (spare_only spare.old) order.now writes.now dropped_writes.now copies.now dropped_copies.now }
-    ensures { handed_back (device flash.new spare.new disk.new) [] result ≡ rebuilding z begun s (device flash.old spare.old disk.old) }
+fn rebuild_by(run: &mut Run<'_>, z: Sizes, next: u64, columns: Columns<'_>) -> State
+    requires recoverable { RecoverableIn z run.old }
+    requires listed { Listed z run.old.spare.now columns }
+    ensures after { reached run.new result ≡ rebuilding z next (run_of run.old) }
+    ensures stays { Stays z run.old run.new }
 {
-    let new = recovered(
-        z,
-        begun.next,
-        order,
-        writes,
-        dropped_writes,
-        copies,
-        dropped_copies,
-        spare,
-    );
-    let after = rescue::rescue(
-        begun.meter,
-        z,
-        order,
-        writes,
-        dropped_writes,
-        copies,
-        dropped_copies,
-        flash,
-        spare,
-        disk,
-    );
-    outcome::finish(after, begun.allowance, Answer::Done, s, new)
+    let new = recovered(z, next, columns, run.spare());
+    rescue::rescue(run, z, columns);
+    new
 }
 
 // Which copies are kept and which are dropped, beside the Write buckets.
 fn rebuild_copies(
-    s: State,
+    run: &mut Run<'_>,
     z: Sizes,
-    begun: Begun,
+    next: u64,
     order: &[u8],
     writes: &[u16],
     dropped_writes: &[u16],
-    flash: &mut [u8],
-    spare: &mut [u8],
-    disk: &mut [u8],
-) -> Outcome
-    requires recoverable { Recoverable z flash.old spare.old disk.old }
-    requires left_le_allowance { begun.meter.left ≤ begun.allowance }
-    requires order_value { order.now ≡ in_order z (spare_only spare.old) }
-    requires writes_value { (writes.now ≡ column z (spare_only spare.old) (is_write z (spare_only spare.old))) × (dropped_writes.now ≡ column z (spare_only spare.old) (is_dropped_write z (spare_only spare.old))) }
-    ensures { handed_back (device flash.new spare.new disk.new) [] result ≡ rebuilding z begun s (device flash.old spare.old disk.old) }
+) -> State
+    requires recoverable { RecoverableIn z run.old }
+    requires order_value { order.now ≡ in_order z (spare_only run.old.spare.now) }
+    requires writes_value { (writes.now ≡ column z (spare_only run.old.spare.now) (is_write z (spare_only run.old.spare.now))) × (dropped_writes.now ≡ column z (spare_only run.old.spare.now) (is_dropped_write z (spare_only run.old.spare.now))) }
+    ensures after { reached run.new result ≡ rebuilding z next (run_of run.old) }
+    ensures stays { Stays z run.old run.new }
 {
     let n = order.len();
     let mut copies = classes::blank_column();
@@ -220,74 +178,44 @@ fn rebuild_copies(
         z,
         order,
         dropped_writes,
-        spare,
+        run.spare(),
         &mut copies[..n],
         &mut dropped[..n],
     );
-    rebuild_by(
-        s,
-        z,
-        begun,
+    let columns = Columns {
         order,
         writes,
         dropped_writes,
-        &copies[..n],
-        &dropped[..n],
-        flash,
-        spare,
-        disk,
-    )
+        copies: &copies[..n],
+        dropped_copies: &dropped[..n],
+    };
+    rebuild_by(run, z, next, columns)
 }
 
 // Which Write buckets are kept and which are dropped.
-fn rebuild_writes(
-    s: State,
-    z: Sizes,
-    begun: Begun,
-    order: &[u8],
-    flash: &mut [u8],
-    spare: &mut [u8],
-    disk: &mut [u8],
-) -> Outcome
-    requires recoverable { Recoverable z flash.old spare.old disk.old }
-    requires left_le_allowance { begun.meter.left ≤ begun.allowance }
-    requires order_value { order.now ≡ in_order z (spare_only spare.old) }
-    ensures { handed_back (device flash.new spare.new disk.new) [] result ≡ rebuilding z begun s (device flash.old spare.old disk.old) }
+fn rebuild_writes(run: &mut Run<'_>, z: Sizes, next: u64, order: &[u8]) -> State
+    requires recoverable { RecoverableIn z run.old }
+    requires order_value { order.now ≡ in_order z (spare_only run.old.spare.now) }
+    ensures after { reached run.new result ≡ rebuilding z next (run_of run.old) }
+    ensures stays { Stays z run.old run.new }
 {
     let n = order.len();
     let mut writes = classes::blank_column();
     let mut dropped = classes::blank_column();
-    classes::write_columns(z, order, spare, &mut writes[..n], &mut dropped[..n]);
-    rebuild_copies(
-        s,
-        z,
-        begun,
-        order,
-        &writes[..n],
-        &dropped[..n],
-        flash,
-        spare,
-        disk,
-    )
+    classes::write_columns(z, order, run.spare(), &mut writes[..n], &mut dropped[..n]);
+    rebuild_copies(run, z, next, order, &writes[..n], &dropped[..n])
 }
 
-// The used buckets are put in order once, for all lists and stores.
-fn rebuild(
-    s: State,
-    z: Sizes,
-    begun: Begun,
-    flash: &mut [u8],
-    spare: &mut [u8],
-    disk: &mut [u8],
-) -> Outcome
-    requires recoverable { Recoverable z flash.old spare.old disk.old }
-    requires left_le_allowance { begun.meter.left ≤ begun.allowance }
-    ensures { handed_back (device flash.new spare.new disk.new) [] result ≡ rebuilding z begun s (device flash.old spare.old disk.old) }
+// Recovery behind its erases. The used buckets are put in order once, for all lists and stores.
+fn rebuild(run: &mut Run<'_>, z: Sizes, next: u64) -> State
+    requires { RecoverableIn z run.old }
+    ensures after { reached run.new result ≡ rebuilding z next (run_of run.old) }
+    ensures stays { Stays z run.old run.new }
 {
-    let used = classes::in_order(z, spare);
+    let used = classes::in_order(z, run.spare());
     let n = used.used();
     let order = used.items;
-    rebuild_writes(s, z, begun, &order[..n], flash, spare, disk)
+    rebuild_writes(run, z, next, &order[..n])
 }
 
 // Epochs and names are those that recovery finds; a cut in its erases ends it.
@@ -304,17 +232,18 @@ fn recover_chip(
 {
     let next = fits::top_epoch(z, spare) + 1;
     let marks = ledger::named(z, spare);
-    let whole = Meter::whole(allowance);
-    let meter = sweep::sweep(whole, z, &marks, flash, spare, disk);
-    if meter.cut {
-        return outcome::cut_short(meter, allowance, s);
-    }
-    let begun = Begun {
-        allowance,
-        meter,
-        next,
+    let mut run = Run {
+        flash,
+        spare,
+        disk,
+        meter: Meter::whole(allowance),
     };
-    rebuild(s, z, begun, flash, spare, disk)
+    sweep::sweep(&mut run, z, &marks);
+    if run.meter.cut {
+        return outcome::cut_short(run.meter, allowance, s);
+    }
+    let new = rebuild(&mut run, z, next);
+    outcome::finish(run.meter, allowance, Answer::Done, s, new)
 }
 
 // The entry. The sizes are its own: the state's are not looked at.

@@ -42,14 +42,6 @@ module _ (x : ℕ) (column : List ℕ) {from at : ℕ} (passed : Passed x column
           let place : at + (j - at) ≡ j = omega arith in
           rw (get_d_part column at k (j - at) (omega arith), place) at (none_of x (part column at k) e (j - at) (omega (arith, length-part-fits column at k h)))
 
-  -- one place
-  pub passed_one : at < length column → eqb x (get_or column at 0) ≡ false → Passed x column from (at + 1)
-  passed_one h e = record { low = omega (arith, passed.low); high = omega arith; none = λ j a b. go j a b (dec_lt j at) }
-    where
-      go : (j : ℕ) → from ≤ j → j < at + 1 → Dec (j < at) → eqb x (get_or column j 0) ≡ false
-      go j a b (yes u) = passed.none j a u
-      go j a b (no u) = let place : j ≡ at = omega arith in rw place e
-
 -- what each step leaves as it is
 along : {A : Type 0} (f : ℕ → A) (k i : ℕ) → ((j : ℕ) → i ≤ j → j < i + k → f j ≡ f (j + 1)) → f i ≡ f (i + k)
 along f zero i h = ap f (omega arith)

@@ -8,17 +8,28 @@ ghost use Rattle.model.specs.Sizes.{bucket_size, disk_size, body};
 ghost use Rattle.model.specs.Stores.{disk_bytes};
 ghost use Rattle.model.specs.Image.{is_dirty};
 ghost use Rattle.model.specs.State.{is_below};
-ghost use Rattle.model.specs.Recover.{is_dropped_write, is_dropped_copy, merge_all, is_rescued, rescued, rescue_stores};
+ghost use Rattle.model.specs.Recover.{merge_all, is_rescued, rescued, rescue_stores};
 ghost use Rattle.geometry.specs.Geometry.{device, Lent};
 ghost use Rattle.image.specs.Chip.{Chip, spare_only};
 ghost use Rattle.overlay.specs.Window.{Turns, Readable, chip};
 ghost use Rattle.meter.specs.Run.{running, run_all};
-ghost use Rattle.classes.specs.Columns.{in_order, column, Columns};
-ghost use Rattle.rescue.specs.Sources.{Recoverable, Listed, rescues};
+ghost use Rattle.meter.specs.Lent.{run_of, Stays};
+ghost use Rattle.classes.specs.Columns.{column};
+ghost use Rattle.rescue.specs.Sources.{Recoverable, RecoverableIn, Listed, rescues};
 ghost use Rattle.rescue.specs.Beside.{beside, Passed, is_unwritten};
 
-use meter::Meter;
+use meter::{Meter, Run};
 use model::Sizes;
+
+// The used buckets by epoch, and columns beside them: all Write buckets and the dropped ones; the copy of each back-end bucket and the dropped ones.
+#[derive(Clone, Copy)]
+pub struct Columns<'a> {
+    pub order: &'a [u8],
+    pub writes: &'a [u16],
+    pub dropped_writes: &'a [u16],
+    pub copies: &'a [u16],
+    pub dropped_copies: &'a [u16],
+}
 
 // So many places of a column are compared with a number at once.
 const PART: usize = 16;
@@ -70,13 +81,13 @@ fn list_writes(b: u16, order: &[u8], writes: &[u16], list: &mut [u8]) -> usize
 }
 
 // The Write buckets whose logs lie over the bytes of b: without a dropped one there are none.
-fn list_logs(b: u16, order: &[u8], writes: &[u16], dropped_writes: &[u16], list: &mut [u8]) -> usize
-    requires writes_len { length writes.now ≡ length order.now }
-    requires order_in_bounds { length order.now ≤ length list.old }
-    ensures { (result ≤ length list.old) × (take result list.new ≡ (if member b dropped_writes.now then beside b writes.now order.now else [])) }
+fn list_logs(b: u16, columns: Columns<'_>, list: &mut [u8]) -> usize
+    requires writes_len { length columns.writes.now ≡ length columns.order.now }
+    requires order_in_bounds { length columns.order.now ≤ length list.old }
+    ensures { (result ≤ length list.old) × (take result list.new ≡ (if member b columns.entry.dropped_writes.now then beside b columns.entry.writes.now columns.entry.order.now else [])) }
 {
-    if order::occurs(b, dropped_writes) {
-        list_writes(b, order, writes, list)
+    if order::occurs(b, columns.dropped_writes) {
+        list_writes(b, columns.order, columns.writes, list)
     } else {
         0
     }
@@ -87,21 +98,20 @@ fn lay_logs(
     z: Sizes,
     b: u16,
     list: &[u8],
-    order: &[u8],
-    copies: &[u16],
+    columns: Columns<'_>,
     flash: &[u8],
     spare: &[u8],
     window: &mut [u8],
 )
     requires readable { Readable z flash.now spare.now }
-    requires copies_len { (length copies.now ≡ length order.now) × (all (is_below (body z)) order.now ≡ true) × (all (is_below (body z)) list.now ≡ true) }
+    requires copies_len { (length columns.copies.now ≡ length columns.order.now) × (all (is_below (body z)) columns.order.now ≡ true) × (all (is_below (body z)) list.now ≡ true) }
     requires window_len_bound { length window.old ≤ bucket_size z }
-    ensures { (base : List ℕ) → length base ≡ bucket_size z → Turns 0 base (merge_all z (chip flash.now spare.now) list.now (if member b copies.now then part flash.now (head (beside b copies.now order.now) * bucket_size z) (bucket_size z) else base)) window.old window.new }
+    ensures { (base : List ℕ) → length base ≡ bucket_size z → Turns 0 base (merge_all z (chip flash.now spare.now) list.now (if member b columns.entry.copies.now then part flash.now (head (beside b columns.entry.copies.now columns.entry.order.now) * bucket_size z) (bucket_size z) else base)) window.old window.new }
 {
-    let place = next_index(b, copies, 0);
-    if place < copies.len() {
+    let place = next_index(b, columns.copies, 0);
+    if place < columns.copies.len() {
         let size = z.p * z.s;
-        let at = order[place] as usize * size;
+        let at = columns.order[place] as usize * size;
         let end = at + size;
         overlay::lay_out(z, list, 0, flash, spare, &flash[at..end], window);
     } else {
@@ -113,23 +123,20 @@ fn lay_logs(
 fn lay_rescued(
     z: Sizes,
     b: u16,
-    order: &[u8],
-    writes: &[u16],
-    dropped_writes: &[u16],
-    copies: &[u16],
+    columns: Columns<'_>,
     flash: &[u8],
     spare: &[u8],
     window: &mut [u8],
 )
     requires readable { Readable z flash.now spare.now }
-    requires listed { Listed z spare.now order.now writes.now dropped_writes.now copies.now }
+    requires listed { Listed z spare.now columns }
     requires b_lt_b { (b < z.b) × (is_rescued z (spare_only spare.now) b ≡ true) }
     requires window_len_bound { length window.old ≤ bucket_size z }
     ensures { (disk : List ℕ) → length disk ≡ disk_size z → Turns 0 (disk_bytes z (device flash.now spare.now disk) b) (rescued z (device flash.now spare.now disk) b) window.old window.new }
 {
     let mut list = [0u8; 256];
-    let count = list_logs(b, order, writes, dropped_writes, &mut list);
-    lay_logs(z, b, &list[..count], order, copies, flash, spare, window);
+    let count = list_logs(b, columns, &mut list);
+    lay_logs(z, b, &list[..count], columns, flash, spare, window);
 }
 
 // The units of b, laid in their place on the disk: as many as the allowance lets be made.
@@ -137,32 +144,19 @@ fn rescue_one(
     meter: Meter,
     z: Sizes,
     b: usize,
-    order: &[u8],
-    writes: &[u16],
-    dropped_writes: &[u16],
-    copies: &[u16],
+    columns: Columns<'_>,
     flash: &[u8],
     spare: &[u8],
     disk: &mut [u8],
 ) -> Meter
     requires recoverable { Recoverable z flash.now spare.now disk.old }
-    requires listed { Listed z spare.now order.now writes.now dropped_writes.now copies.now }
+    requires listed { Listed z spare.now columns }
     requires b_lt_b { (b < z.b) × (is_rescued z (spare_only spare.now) b ≡ true) }
     ensures result_after { running flash.now spare.now disk.new result ≡ run_all z (rescue_stores z (device flash.now spare.now disk.old) b) (running flash.now spare.now disk.old meter) }
     ensures disk_len { length disk.new ≡ disk_size z }
 {
     let place = units::place(meter, z, b);
-    lay_rescued(
-        z,
-        b as u16,
-        order,
-        writes,
-        dropped_writes,
-        copies,
-        flash,
-        spare,
-        &mut disk[place],
-    );
+    lay_rescued(z, b as u16, columns, flash, spare, &mut disk[place]);
     meter::spent(meter, z.p)
 }
 
@@ -180,22 +174,20 @@ fn unwritten_back(z: Sizes, c: usize, dropped_write: u16, dropped_copy: u16, spa
 }
 
 // The column of what is to be written.
-fn unwritten_backs(
-    z: Sizes,
-    order: &[u8],
-    dropped_writes: &[u16],
-    dropped_copies: &[u16],
-    spare: &[u8],
-) -> [u16; 256]
+fn unwritten_backs(z: Sizes, columns: Columns<'_>, spare: &[u8]) -> [u16; 256]
     requires chip { Chip z spare.now }
-    requires order_value { order.now ≡ in_order z (spare_only spare.now) }
-    requires dropped_writes_value { dropped_writes.now ≡ column z (spare_only spare.now) (is_dropped_write z (spare_only spare.now)) }
-    requires dropped_copies_value { dropped_copies.now ≡ column z (spare_only spare.now) (is_dropped_copy z (spare_only spare.now)) }
-    ensures { take (length order.now) result ≡ column z (spare_only spare.now) (is_unwritten z (spare_only spare.now)) }
+    requires listed { Listed z spare.now columns }
+    ensures { take (length columns.entry.order.now) result ≡ column z (spare_only spare.now) (is_unwritten z (spare_only spare.now)) }
 {
     let mut unwritten = [0u16; 256];
-    for (i, c) in order.iter().enumerate() {
-        unwritten[i] = unwritten_back(z, *c as usize, dropped_writes[i], dropped_copies[i], spare);
+    for (i, c) in columns.order.iter().enumerate() {
+        unwritten[i] = unwritten_back(
+            z,
+            *c as usize,
+            columns.dropped_writes[i],
+            columns.dropped_copies[i],
+            spare,
+        );
     }
     unwritten
 }
@@ -204,72 +196,64 @@ fn unwritten_backs(
 fn rescue_each(
     meter: Meter,
     z: Sizes,
-    order: &[u8],
-    writes: &[u16],
-    dropped_writes: &[u16],
-    copies: &[u16],
+    columns: Columns<'_>,
     unwritten: &[u16],
     flash: &[u8],
     spare: &[u8],
     disk: &mut [u8],
 ) -> Meter
     requires recoverable { Recoverable z flash.now spare.now disk.old }
-    requires listed { Listed z spare.now order.now writes.now dropped_writes.now copies.now }
+    requires listed { Listed z spare.now columns }
     requires unwritten_value { unwritten.now ≡ column z (spare_only spare.now) (is_unwritten z (spare_only spare.now)) }
     ensures result_after { running flash.now spare.now disk.new result ≡ run_all z (rescues z (device flash.now spare.now disk.old)) (running flash.now spare.now disk.old meter) }
     ensures disk_len { length disk.new ≡ disk_size z }
 {
     let end = z.b;
-    let mut run = meter;
+    let mut left = meter;
     let mut b = order::next_of(unwritten, 0, end);
     while b < end {
-        run = rescue_one(
-            run,
-            z,
-            b,
-            order,
-            writes,
-            dropped_writes,
-            copies,
-            flash,
-            spare,
-            disk,
-        );
+        left = rescue_one(left, z, b, columns, flash, spare, disk);
         b = order::next_of(unwritten, b + 1, end);
     }
-    run
+    left
 }
 
-// The stores of a recovery, with what is to be written in a column of its own.
-pub fn rescue(
+// Chip and disk are lent on; the disk alone is written.
+fn write_units(
     meter: Meter,
     z: Sizes,
-    order: &[u8],
-    writes: &[u16],
-    dropped_writes: &[u16],
-    copies: &[u16],
-    dropped_copies: &[u16],
+    columns: Columns<'_>,
+    unwritten: &[u16],
     flash: &mut [u8],
     spare: &mut [u8],
     disk: &mut [u8],
 ) -> Meter
     requires recoverable { Recoverable z flash.old spare.old disk.old }
-    requires columns { Columns z (spare_only spare.old) order.now writes.now dropped_writes.now copies.now dropped_copies.now }
-    ensures result_after { running flash.new spare.new disk.new result ≡ run_all z (rescues z (device flash.old spare.old disk.old)) (running flash.old spare.old disk.old meter) }
-    ensures lent { Lent z flash.new spare.new disk.new }
+    requires listed { Listed z spare.old columns }
+    requires unwritten_value { unwritten.now ≡ column z (spare_only spare.old) (is_unwritten z (spare_only spare.old)) }
+    ensures after { running flash.new spare.new disk.new result ≡ run_all z (rescues z (device flash.old spare.old disk.old)) (running flash.old spare.old disk.old meter) }
+    ensures lent_after { Lent z flash.new spare.new disk.new }
 {
-    let unwritten = unwritten_backs(z, order, dropped_writes, dropped_copies, spare);
-    let n = order.len();
-    rescue_each(
+    rescue_each(meter, z, columns, unwritten, flash, spare, disk)
+}
+
+// The stores of a recovery, with what is to be written in a column of its own.
+pub fn rescue(run: &mut Run<'_>, z: Sizes, columns: Columns<'_>)
+    requires recoverable { RecoverableIn z run.old }
+    requires listed { Listed z run.old.spare.now columns }
+    ensures after { run_of run.new ≡ run_all z (rescues z (run_of run.old).device) (run_of run.old) }
+    ensures stays { Stays z run.old run.new }
+{
+    let unwritten = unwritten_backs(z, columns, run.spare());
+    let n = columns.order.len();
+    let meter = run.meter;
+    run.meter = write_units(
         meter,
         z,
-        order,
-        writes,
-        dropped_writes,
-        copies,
+        columns,
         &unwritten[..n],
-        flash,
-        spare,
-        disk,
-    )
+        run.flash,
+        run.spare,
+        run.disk,
+    );
 }

@@ -8,56 +8,40 @@ ghost use Rattle.model.specs.Stores.{erase};
 ghost use Rattle.model.specs.Ledger.{named};
 ghost use Rattle.model.specs.Recover.{swept};
 ghost use Rattle.model.proofs.Limits.{Limits};
-ghost use Rattle.geometry.specs.Geometry.{device, Lent};
 ghost use Rattle.image.specs.Chip.{spare_only};
 ghost use Rattle.ledger.specs.Marks.{Marks};
-ghost use Rattle.meter.specs.Run.{running, run_all};
+ghost use Rattle.meter.specs.Run.{run_all};
+ghost use Rattle.meter.specs.Lent.{run_of, LentTo, Stays};
 
-use meter::Meter;
+use meter::Run;
 use model::Sizes;
 
 // Erases the marked buckets in rising order.
-fn erase_marked(
-    meter: Meter,
-    z: Sizes,
-    marks: &[bool; 256],
-    flash: &mut [u8],
-    spare: &mut [u8],
-    disk: &mut [u8],
-) -> Meter
+fn erase_marked(run: &mut Run<'_>, z: Sizes, marks: &[bool; 256])
     requires limits { Limits z }
-    requires lent { Lent z flash.old spare.old disk.old }
-    requires marks { Marks z (spare_only spare.old) marks.now }
-    ensures result_after { running flash.new spare.new disk.new result ≡ run_all z (map erase (keep (named z (spare_only spare.old)) (below (body z)))) (running flash.old spare.old disk.old meter) }
-    ensures lent_2 { Lent z flash.new spare.new disk.new }
+    requires lent { LentTo z run.old }
+    requires marks { Marks z (spare_only run.old.spare.now) marks.now }
+    ensures after { run_of run.new ≡ run_all z (map erase (keep (named z (spare_only run.old.spare.now)) (below (body z)))) (run_of run.old) }
+    ensures stays { Stays z run.old run.new }
 {
     let end = geometry::body(z);
-    let mut run = meter;
     for bucket in 0..end {
         if marks[bucket] {
-            run = meter::erase_bucket(run, z, bucket, flash, spare, disk);
+            run.erase(z, bucket);
         }
     }
-    run
 }
 
 // The marks are those of the buckets that the ledger names before the first erase.
-pub fn sweep(
-    meter: Meter,
-    z: Sizes,
-    marks: &[bool; 256],
-    flash: &mut [u8],
-    spare: &mut [u8],
-    disk: &mut [u8],
-) -> Meter
+pub fn sweep(run: &mut Run<'_>, z: Sizes, marks: &[bool; 256])
     requires limits { Limits z }
-    requires lent { Lent z flash.old spare.old disk.old }
-    requires marks { Marks z (spare_only spare.old) marks.now }
-    ensures result_after { running flash.new spare.new disk.new result ≡ run_all z (map erase (swept z (device flash.old spare.old disk.old))) (running flash.old spare.old disk.old meter) }
-    ensures lent_2 { Lent z flash.new spare.new disk.new }
+    requires lent { LentTo z run.old }
+    requires marks { Marks z (spare_only run.old.spare.now) marks.now }
+    ensures after { run_of run.new ≡ run_all z (map erase (swept z (run_of run.old).device)) (run_of run.old) }
+    ensures stays { Stays z run.old run.new }
 {
-    let cleared = erase_marked(meter, z, marks, flash, spare, disk);
+    erase_marked(run, z, marks);
     let lower = geometry::body(z);
-    let half = meter::erase_bucket(cleared, z, lower, flash, spare, disk);
-    meter::erase_bucket(half, z, lower + 1, flash, spare, disk)
+    run.erase(z, lower);
+    run.erase(z, lower + 1);
 }

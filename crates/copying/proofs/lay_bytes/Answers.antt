@@ -1,8 +1,8 @@
 use Prim.Native.Nat.{ℕ, ◌+◌, ◌*◌, ◌≤◌, ◌<◌}
 use mathlib.Core.List.{List}
-use mathlib.Core.Path.{◌≡◌, refl, ◌∙◌}
+use mathlib.Core.Path.{◌≡◌, ◌∙◌}
 use mathlib.Core.Bool.{false}
-use mathlib.Core.Logic.{inl, inr}
+use mathlib.Core.Logic.{inl}
 use native.Mathlib.Nat.{mul-le-mul}
 use native.Mathlib.Omega.{arith}
 use lib.ListN.{length}
@@ -14,10 +14,8 @@ use Rattle.lists.proofs.Arrays.{empty-length}
 use Rattle.model.specs.declared.Sizes.{Sizes}
 use Rattle.model.specs.Sizes.{bucket_size, disk_size}
 use Rattle.model.specs.Stores.{bucket_bytes, disk_bytes}
-use Rattle.model.proofs.Limits.{on_chip}
 use Rattle.geometry.specs.Geometry.{device}
 use Rattle.geometry.proofs.Places.{nth_inside}
-use Rattle.geometry.proofs.Passed.{products}
 use Rattle.overlay.proofs.SameChip.{same-merge-all}
 use Rattle.copying.specs.Laid.{under_bytes}
 use Rattle.copying.proofs.Sourced.{readable}
@@ -29,40 +27,20 @@ inside : (z : Sizes) (b : ℕ) (disk : List ℕ) → b < z.b → length disk ≡
 unfolding bucket_size disk_size
 inside z b disk back disk_length = omega (arith, nth_inside b z.b (z.p * z.s) back, disk_length)
 
-pub lay_within-requires : goal.lay_within-requires
-lay_within-requires c = let p = c.requires in
-    let laid = p.laid in
-    record {
-      readable = readable laid;
-      list_value = laid.logs;
-      target_lt_c = (laid.bucket, on_chip _ _ (rw c.in-Some.is at laid.read), p.n_bound);
-      aside = record { unlisted = laid.logs_aside; lent = inr (refl, rw c.in-Some.is at laid.read_aside) };
-    }
-
 pub returns-in-Some : goal.returns-in-Some
 unfolding under_bytes bucket_bytes empty
-returns-in-Some c = let a = c.args in
+returns-in-Some c =
+    let a = c.args in
     let d = device a.flash.now a.spare.now a.disk.now in
     rw (c.in-Some.is, ← same-merge-all a.z d a.list.now (bucket_bytes a.z d c.in-Some.copy.cache)) c.lay_within.ensures
-
-pub overflow_mul-from : goal.overflow_mul-from
-overflow_mul-from c = omega (arith, products c.requires.laid.limits)
-
-pub overflow_mul-from-2 : goal.overflow_mul-from-2
-overflow_mul-from-2 c = omega (arith, inside c.args.z c.args.b c.args.disk.now c.requires.laid.back c.requires.laid.lent.disk_length)
-
-pub overflow_mul-to : goal.overflow_mul-to
-overflow_mul-to c = omega (arith, products c.requires.laid.limits)
-
-pub overflow_add-to : goal.overflow_add-to
-overflow_add-to c = omega (arith, inside c.args.z c.args.b c.args.disk.now c.requires.laid.back c.requires.laid.lent.disk_length)
 
 pub slice_bounds-lay_within-end-2 : goal.slice_bounds-lay_within-end-2
 slice_bounds-lay_within-end-2 c = omega (arith, inside c.args.z c.args.b c.args.disk.now c.requires.laid.back c.requires.laid.lent.disk_length)
 
 pub lay_within-requires-2 : goal.lay_within-requires-2
 unfolding bucket_size
-lay_within-requires-2 c = let laid = c.requires.laid in
+lay_within-requires-2 c =
+    let laid = c.requires.laid in
     let a = c.args in
     let size = a.z.p * a.z.s in
     record {
@@ -77,7 +55,8 @@ lay_within-requires-2 c = let laid = c.requires.laid in
 
 pub returns : goal.returns
 unfolding under_bytes disk_bytes bucket_size
-returns c = let laid = c.requires.laid in
+returns c =
+    let laid = c.requires.laid in
     let a = c.args in
     let size = a.z.p * a.z.s in
     let below = part a.disk.now (a.b * size) size in

@@ -1,4 +1,4 @@
-use mathlib.Core.Path.{refl}
+use mathlib.Core.Path.{refl, sym}
 use Rattle.state.specs.View.{places_of}
 use Rattle.model.specs.Operations.{drain}
 use Rattle.model.specs.Calls.{drain_call, sizes_of, done_answer, lent_buffer, read_buffer}
@@ -8,15 +8,17 @@ use Rattle.drain.proofs.drain_whole.Goals as goal
 
 pub finish-requires : goal.finish-requires
 unfolding sizes_of
-finish-requires c = let whole = c.whole-whole in
-    let drain-queues = c.drain_queues-turn in
+finish-requires c =
     let a = c.args in
-    step_left a.allowance drain_call a.s (places_of a.s) (device a.flash.now a.spare.now a.disk.now) (drain a.s.sizes) (rw whole.ensures at drain-queues.ensures.result_after)
+    step_left a.allowance drain_call a.s (places_of a.s) (device a.flash.now a.spare.now a.disk.now) (drain a.s.sizes) (rw c.whole.ensures at c.drain_queues-state.ensures.after)
 
 pub returns : goal.returns
 unfolding sizes_of done_answer lent_buffer read_buffer
-returns c = let whole = c.whole-whole in
-    let drain-queues = c.drain_queues-turn in
+returns c =
     let a = c.args in
-    rw c.finish.ensures
-    (step-handed a.allowance drain_call a.s (places_of a.s) (device a.flash.now a.spare.now a.disk.now) (drain a.s.sizes) (rw whole.ensures at drain-queues.ensures.result_after) refl refl)
+    let stays = c.drain_queues-state.ensures.stays in
+    let flash = c.flash-1.given.1.1 (sym stays.flash) in
+    let spare = c.spare-1.given.1.1 (sym stays.spare) in
+    let disk = c.disk-1.given.1.1 (sym stays.disk) in
+    rw (flash, spare, disk, c.finish.ensures)
+    (step-handed a.allowance drain_call a.s (places_of a.s) (device a.flash.now a.spare.now a.disk.now) (drain a.s.sizes) (rw c.whole.ensures at c.drain_queues-state.ensures.after) refl refl)

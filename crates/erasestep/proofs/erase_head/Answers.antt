@@ -1,4 +1,4 @@
-use mathlib.Core.Path.{refl}
+use mathlib.Core.Path.{refl, sym}
 use Rattle.state.specs.View.{places_of}
 use Rattle.model.specs.Steps.{erase_step}
 use Rattle.model.specs.Calls.{erase_call, sizes_of, lent_buffer, read_buffer}
@@ -8,16 +8,17 @@ use Rattle.erasestep.proofs.erase_head.Goals as goal
 
 pub finish-requires : goal.finish-requires
 unfolding sizes_of
-finish-requires c = let whole = c.whole-whole in
-    let turn = c.erase_step-turn in
+finish-requires c =
     let a = c.args in
-    step_left a.allowance erase_call a.s (places_of a.s) (device a.flash.now a.spare.now a.disk.now) (erase_step a.s.sizes) (rw whole.ensures at turn.ensures.result_after)
+    step_left a.allowance erase_call a.s (places_of a.s) (device a.flash.now a.spare.now a.disk.now) (erase_step a.s.sizes) (rw c.whole.ensures at c.erase_step-state.ensures.after)
 
 pub returns : goal.returns
 unfolding sizes_of lent_buffer read_buffer
-returns c = let full-answer = c.full_answer-full in
-    let whole = c.whole-whole in
-    let turn = c.erase_step-turn in
+returns c =
     let a = c.args in
-    rw (c.finish.ensures, full-answer.ensures)
-    (step-handed a.allowance erase_call a.s (places_of a.s) (device a.flash.now a.spare.now a.disk.now) (erase_step a.s.sizes) (rw whole.ensures at turn.ensures.result_after) refl refl)
+    let stays = c.erase_step-state.ensures.stays in
+    let flash = c.flash-1.given.1.1 (sym stays.flash) in
+    let spare = c.spare-1.given.1.1 (sym stays.spare) in
+    let disk = c.disk-1.given.1.1 (sym stays.disk) in
+    rw (flash, spare, disk, c.finish.ensures, c.full_answer-full.ensures)
+    (step-handed a.allowance erase_call a.s (places_of a.s) (device a.flash.now a.spare.now a.disk.now) (erase_step a.s.sizes) (rw c.whole.ensures at c.erase_step-state.ensures.after) refl refl)

@@ -1,4 +1,4 @@
-use mathlib.Core.Path.{refl}
+use mathlib.Core.Path.{refl, sym}
 use Rattle.geometry.specs.Geometry.{device}
 use Rattle.model.specs.Calls.{format_call, sizes_of, done_answer, lent_buffer, read_buffer}
 use Rattle.model.specs.Operations.{format}
@@ -8,15 +8,19 @@ use Rattle.format.proofs.format_chip.Goals as goal
 
 pub finish-requires : goal.finish-requires
 unfolding sizes_of format
-finish-requires c = let whole = c.whole-whole in
+finish-requires c =
     let a = c.args in
     let d = device a.flash.now a.spare.now a.disk.now in
-    left_within a.allowance (format_call a.z) a.s (view_of a.s) d (format a.z) (rw whole.ensures at c.erase_all-after.ensures.result_after)
+    left_within a.allowance (format_call a.z) a.s (view_of a.s) d (format a.z) (rw c.whole.ensures at c.erase_all.ensures.after)
 
 pub returns : goal.returns
 unfolding sizes_of format done_answer lent_buffer read_buffer
-returns c = let whole = c.whole-whole in
-    let erase-all = c.erase_all-after in
+returns c =
     let a = c.args in
     let d = device a.flash.now a.spare.now a.disk.now in
-    rw (c.finish.ensures, c.formatted-new.ensures) (handed_quiet a.allowance (format_call a.z) a.s (view_of a.s) d (format a.z) refl refl (rw whole.ensures at erase-all.ensures.result_after))
+    let stays = c.erase_all.ensures.stays in
+    let flash = c.flash-1.given.1.1 (sym stays.flash) in
+    let spare = c.spare-1.given.1.1 (sym stays.spare) in
+    let disk = c.disk-1.given.1.1 (sym stays.disk) in
+    rw (flash, spare, disk, c.finish.ensures, c.formatted-new.ensures)
+    (handed_quiet a.allowance (format_call a.z) a.s (view_of a.s) d (format a.z) refl refl (rw c.whole.ensures at c.erase_all.ensures.after))

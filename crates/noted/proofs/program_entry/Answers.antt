@@ -8,4 +8,4 @@ program_log-requires c = let p = c.requires in
 
 pub returns : goal.returns
 returns c = let p = c.requires in
-    record { result_after = rw (c.program_log.ensures.result_after, entry_log _ p.limits.0); lent_2 = c.program_log.ensures.lent_2 }
+    record { after = rw (c.program_log.ensures.after, entry_log _ p.limits.0); stays = c.program_log.ensures.stays }

@@ -1,21 +1,26 @@
-use Prim.Native.Nat.{ℕ}
+use Prim.Native.Nat.{ℕ, ◌<◌}
 use mathlib.Core.Path.{◌≡◌, refl, sym, ap, ◌∙◌}
 use native.Mathlib.Omega.{arith}
 use lib.Dec.{eqb}
-use lib.ListN.{get_or}
+use lib.ListN.{get_or, length-take}
+use lib.Seq.{get_or-take, length-take-le}
 use Rattle.lists.specs.Lists.{all_below}
 use Rattle.lists.proofs.Turns.{all_more}
 use Rattle.once.proofs.all_once.Goals as goal
 
-pub loop-x-init : goal.loop-x-init
+pub loop-count-init : goal.loop-count-init
 unfolding all_below
-loop-x-init c = (omega arith, c.requires, refl)
+loop-count-init c = refl
 
-pub loop-x-preserved : goal.loop-x-preserved
-loop-x-preserved c = let l = c.loop-x in
-    (omega arith, l.invariant.1, rw l.invariant.2 (sym (all_more l.x (λ k. eqb (get_or c.args.counts.now k 0) 1))))
+pub loop-count-preserved : goal.loop-count-preserved
+loop-count-preserved c =
+    let counts = c.args.counts.now in
+    let x = c.loop-count.count-index in
+    let first : x < c.args.c = omega (arith, length-take c.args.c counts) in
+    rw (c.loop-count.invariant, get_or-take c.args.c counts x 0 first) (sym (all_more x (λ k. eqb (get_or counts k 0) 1)))
 
 pub returns : goal.returns
-returns c = let l = c.loop-x in
-    let e : l.x ≡ c.args.c = omega arith in
-    l.invariant.2 ∙ ap (λ (n : ℕ). all_below n (λ k. eqb (get_or c.args.counts.now k 0) 1)) e
+returns c =
+    let counts = c.args.counts.now in
+    let all : c.loop-count.count-index ≡ c.args.c = omega (arith, length-take-le c.args.c counts (omega arith)) in
+    c.loop-count.invariant ∙ ap (λ (n : ℕ). all_below n (λ k. eqb (get_or counts k 0) 1)) all

@@ -34,8 +34,8 @@ copy-held z b bytes s d =
     let t = (make_room z placed.state (apply_all s.sizes d placed.stores)).state in
     (maps_newest (entry b (head t.free) 0) (without b t.reads) (absent_without t.reads b)).held
 
-pub make_copy-turn-requires : goal.make_copy-turn-requires
-make_copy-turn-requires c = let p = c.requires in
+pub make_copy-state-requires : goal.make_copy-state-requires
+make_copy-state-requires c = let p = c.requires in
     record { sources = sources p.reads p.lent; drops = (p.reads.drops, p.reads.single, p.next_le_last_epoch) }
 
 pub unwrap-copy-requires : goal.unwrap-copy-requires
@@ -43,9 +43,9 @@ unfolding after
 unwrap-copy-requires c =
     let a = c.args in
     let d = device a.flash.now a.spare.now a.disk.now in
-    let reads = entries_of c.make_copy-turn.result.state.reads in
+    let reads = entries_of c.make_copy-state.result.reads in
     let held : holds a.b reads ≡ true =
-    ap (λ (q : Progress). holds a.b q.state.reads) c.make_copy-turn.ensures.result_after
+    ap (λ (q : Progress). holds a.b q.state.reads) c.make_copy-state.ensures.after
     ∙ copy-held a.s.sizes a.b (merged a.s.sizes (places_of a.s) d a.b) (places_of a.s) d in
     rw c.find.ensures (is_some-found a.b reads ∙ held)
 
@@ -55,21 +55,18 @@ show-requires c =
     let start = c in
     let reads = start.requires.reads in
     let limits = reads.drops.orderly.limits in
-    let own = found_some c.args.b (entries_of c.make_copy-turn.result.state.reads) c.unwrap-copy.result (sym c.find.ensures ∙ c.unwrap-copy.ensures) in
+    let own = found_some c.args.b (entries_of c.make_copy-state.result.reads) c.unwrap-copy.result (sym c.find.ensures ∙ c.unwrap-copy.ensures) in
     record {
       limits = (limits, reads.range);
-      z_in_bounds = λ uncut. rw (← own.cache)
-          (shown_inside start.args.s.sizes (device _ _ _) _ (c.make_copy-turn.ensures.state_after uncut) (merged_size (sources reads start.requires.lent)) (omega (arith, mul-le-mul limits.p_low limits.s_low)));
+      z_in_bounds = λ uncut. rw (c.flash.ensures, ← own.cache)
+          (shown_inside start.args.s.sizes (device _ _ _) _ (c.make_copy-state.ensures.state_after uncut) (merged_size (sources reads start.requires.lent)) (omega (arith, mul-le-mul limits.p_low limits.s_low)));
     }
 
 pub finish-requires : goal.finish-requires
 unfolding sizes_of
 finish-requires c = let a = c.args in
     let d = device a.flash.now a.spare.now a.disk.now in
-    step_left a.allowance (read_call a.b a.offset a.buffer.now) a.s (places_of a.s) d _ (rw c.whole-whole.ensures at c.make_copy-turn.ensures.result_after)
-
-pub shape_of-flash : goal.shape_of-flash
-shape_of-flash c = omega (arith, c.flash-1.given)
+    step_left a.allowance (read_call a.b a.offset a.buffer.now) a.s (places_of a.s) d _ (rw c.whole.ensures at c.make_copy-state.ensures.after)
 
 pub returns : goal.returns
 unfolding bucket_bytes
@@ -77,8 +74,12 @@ returns c = let a = c.args in
     let z = a.s.sizes in
     let v = places_of a.s in
     let d = device a.flash.now a.spare.now a.disk.now in
-    let made = c.make_copy-turn.ensures in
-    let own = found_some a.b (entries_of c.make_copy-turn.result.state.reads) c.unwrap-copy.result (sym c.find.ensures ∙ c.unwrap-copy.ensures) in
-    rw c.finish.ensures
-    (handed-read a.allowance a.s d (read_copy z a.b (merged z v d a.b)) (rw c.whole-whole.ensures at made.result_after) a.b a.offset a.buffer.now
-    (shown c.make_copy-turn.result.meter.cut made.state_after a.buffer.now a.offset (length a.buffer.now) (rw (← own.cache) at c.show.ensures)))
+    let made = c.make_copy-state.ensures in
+    let own = found_some a.b (entries_of c.make_copy-state.result.reads) c.unwrap-copy.result (sym c.find.ensures ∙ c.unwrap-copy.ensures) in
+    let stays = made.stays in
+    let flash = c.flash-1.given.1.1 (sym stays.flash) in
+    let spare = c.spare-1.given.1.1 (sym stays.spare) in
+    let disk = c.disk-1.given.1.1 (sym stays.disk) in
+    rw (flash, spare, disk, c.finish.ensures)
+    (handed-read a.allowance a.s d (read_copy z a.b (merged z v d a.b)) (rw c.whole.ensures at made.after) a.b a.offset a.buffer.now
+    (shown c.make_copy-state.new.run.meter.cut made.state_after a.buffer.now a.offset (length a.buffer.now) (rw (c.flash.ensures, ← own.cache) at c.show.ensures)))

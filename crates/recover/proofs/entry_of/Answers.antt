@@ -7,9 +7,9 @@ use Rattle.recover.proofs.entry_of.Goals as goal
 
 pub overflow_cast-blanks : goal.overflow_cast-blanks
 unfolding blanks
-overflow_cast-blanks c = let start = c in
-    let x = start.args in
-    omega (arith, c.blanks-blanks.ensures, count_le x.z.p (page_blank x.z (spare_only x.spare.now) x.c), start.requires.chip.limits.p_high)
+overflow_cast-blanks c =
+    let a = c.args in
+    omega (arith, c.blanks-blanks.ensures, count_le a.z.p (page_blank a.z (spare_only a.spare.now) a.c), c.requires.chip.limits.p_high)
 
 pub returns-then-counted : goal.returns-then-counted
 unfolding kept_write

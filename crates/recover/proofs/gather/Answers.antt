@@ -3,9 +3,8 @@ use mathlib.Core.Bool.{not, true, false}
 use Rattle.recover.proofs.Queues.{picked_more, picked_room}
 use Rattle.recover.specs.Kept.{picked}
 use Rattle.classes.specs.Columns.{nowhere, is_named}
-use Rattle.lists.proofs.Arrays.{take-used}
 use borrow.Author.Tests.{eq-eqb, ne_eqb}
-use lib.Seq.{take-suc-set, take_all}
+use lib.Seq.{take-suc-set}
 use lib.ListN.{length, take, get_or, length-set, length-append}
 use mathlib.Core.List.{[], ◌∷◌, append-nil, append_assoc}
 use mathlib.Core.Path.{◌≡◌, ap, sym, ◌∙◌}
@@ -20,15 +19,15 @@ unfolding picked
 loop-i-init c = (search rules, omega arith, sym (append-nil _))
 
 pub bounds-items-n : goal.bounds-items-n
-bounds-items-n c = let l = c.loop-i in let x = c.args in
-    omega (arith, l.invariant.1, c.used-n.ensures.0, picked_room x.column.now x.order.now l.i c.requires.column_len (omega arith) (ap not (ne_eqb _ nowhere c.if-column-i.true)))
-
-pub overflow_add-n : goal.overflow_add-n
-overflow_add-n c = let l = c.loop-i in let x = c.args in
+bounds-items-n c =
+    let l = c.loop-i in
+    let x = c.args in
     omega (arith, l.invariant.1, c.used-n.ensures.0, picked_room x.column.now x.order.now l.i c.requires.column_len (omega arith) (ap not (ne_eqb _ nowhere c.if-column-i.true)))
 
 pub loop-i-preserved : goal.loop-i-preserved
-loop-i-preserved c = let l = c.loop-i in let x = c.args in
+loop-i-preserved c =
+    let l = c.loop-i in
+    let x = c.args in
     let m = x.column.now in
     let o = x.order.now in
     let inside : l.i < length m = omega arith in
@@ -46,9 +45,3 @@ loop-i-preserved c = let l = c.loop-i in let x = c.args in
           let same = picked_more m o l.i c.requires.column_len inside false none ∙ append-nil done in
           (ap length w.items-is ∙ l.invariant.0, rw same (omega (arith, w.n-is, l.invariant.1)), rw (same, w.n-is, w.items-is) l.invariant.2)
     ]
-
-pub returns : goal.returns
-returns c = let i = c.loop-i.i in let x = c.args in
-    let all : take i x.order.now ≡ x.order.now = take_all i x.order.now (omega arith) in
-    let whole : take i x.column.now ≡ x.column.now = take_all i x.column.now (omega arith) in
-    c.loop-i.invariant.2 ∙ rw (all, whole, take-used c.used-n.result x.list.len x.list.items c.used-n.ensures.0)

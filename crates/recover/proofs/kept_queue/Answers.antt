@@ -7,7 +7,7 @@ use Rattle.model.specs.Sizes.{body}
 use Rattle.lists.proofs.Arrays.{length_mapped, all_at}
 use Rattle.lists.proofs.Rows.{map_append}
 use borrow.Author.Tests.{eq-eqb, ne_eqb, ltb-true}
-use lib.Seq.{take-suc-set, take_all}
+use lib.Seq.{take-suc-set}
 use lib.ListN.{length, take, get_or, length-set, length-append}
 use mathlib.Core.List.{[], ◌∷◌, append-nil}
 use mathlib.Core.Bool.{true, false}
@@ -23,27 +23,23 @@ pub loop-i-init : goal.loop-i-init
 unfolding differing
 loop-i-init c = (search (rules, length_mapped), refl, refl)
 
-pub entry_of-requires : goal.entry_of-requires
+pub entry_of-requires-clause-c_lt_c : goal.entry_of-requires-clause-c_lt_c
 unfolding is_below
-entry_of-requires c = let x = c.args in let i = c.loop-i.i in record {
-  chip = c.requires.chip;
-  c_lt_c = on_chip x.z (get_or x.order.now i 0) (ltb-true _ (body x.z) (all_at (is_below (body x.z)) x.order.now c.requires.order_value i 0 (omega arith)));
-}
-
-pub offset_bounds-items-n : goal.offset_bounds-items-n
-offset_bounds-items-n c = let l = c.loop-i in let x = c.args in
-    omega (arith, l.invariant.1, differing_room x.column.now x.dropped.now x.order.now l.i c.requires.column_len.0 c.requires.column_len.1 (omega arith) (ne_eqb _ _ c.if-column-i.true))
+entry_of-requires-clause-c_lt_c c =
+    let a = c.args in
+    let i = c.loop-i.i in
+    on_chip a.z (get_or a.order.now i 0) (ltb-true _ (body a.z) (all_at (is_below (body a.z)) a.order.now c.requires.order_value i 0 (omega arith)))
 
 pub bounds-items-n : goal.bounds-items-n
-bounds-items-n c = let l = c.loop-i in let x = c.args in
-    omega (arith, l.invariant.1, differing_room x.column.now x.dropped.now x.order.now l.i c.requires.column_len.0 c.requires.column_len.1 (omega arith) (ne_eqb _ _ c.if-column-i.true))
-
-pub overflow_add-n : goal.overflow_add-n
-overflow_add-n c = let l = c.loop-i in let x = c.args in
+bounds-items-n c =
+    let l = c.loop-i in
+    let x = c.args in
     omega (arith, l.invariant.1, differing_room x.column.now x.dropped.now x.order.now l.i c.requires.column_len.0 c.requires.column_len.1 (omega arith) (ne_eqb _ _ c.if-column-i.true))
 
 pub loop-i-preserved : goal.loop-i-preserved
-loop-i-preserved c = let l = c.loop-i in let x = c.args in
+loop-i-preserved c =
+    let l = c.loop-i in
+    let x = c.args in
     let m = x.column.now in
     let n = x.dropped.now in
     let o = x.order.now in
@@ -63,7 +59,3 @@ loop-i-preserved c = let l = c.loop-i in let x = c.args in
           let same = differing_more m n o l.i c.requires.column_len.0 c.requires.column_len.1 inside true alike ∙ append-nil done in
           (ap length w.items-is ∙ l.invariant.0, rw same (omega (arith, w.n-is, l.invariant.1)), rw (same, w.items-is, w.n-is) l.invariant.2)
     ]
-
-pub returns : goal.returns
-returns c = let i = c.loop-i.i in let x = c.args in
-    c.loop-i.invariant.2 ∙ rw (take_all i x.column.now (omega arith), take_all i x.dropped.now (omega arith), take_all i x.order.now (omega arith))

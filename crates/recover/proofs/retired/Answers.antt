@@ -1,5 +1,5 @@
 use mathlib.Core.List.{List, ◌++◌, append_assoc}
-use Rattle.recover.proofs.Queues.{column_again, column_fits, again-length, room-fits, room-length, column-length, spent, old_copies, dropped_copies, dropped_writes, gc_fits, gc_is, picked_old, picked_copies, picked_writes}
+use Rattle.recover.proofs.Queues.{column_again, room-fits, room-length, spent, old_copies, dropped_copies, dropped_writes, gc_fits, gc_is, picked_old, picked_copies, picked_writes}
 use Rattle.recover.specs.Kept.{picked}
 use Rattle.classes.specs.Columns.{in_order, column}
 use Rattle.fifo.specs.View.{list_of}
@@ -36,70 +36,67 @@ module _ (z : Sizes) (d : Device) {order : List ℕ} (order_is : order ≡ in_or
     writes-listed e = ap (λ (l : List ℕ). picked l order) e ∙ listed (is_dropped_write z d) ∙ picked_writes z d limits formed
 
 pub slice_bounds-old-end : goal.slice_bounds-old-end
-slice_bounds-old-end c = room-fits c.args.z (spare_only c.args.spare.now) c.requires.chip.limits c.requires.order_value _ c.blank_column-old.ensures
+slice_bounds-old-end c =
+    room-fits c.args.z (spare_only c.args.spare.now) c.requires.chip.limits c.requires.listed.order_is _ c.blank_column-old.ensures
 
 pub slice_bounds-old_column-end : goal.slice_bounds-old_column-end
-slice_bounds-old_column-end c = sym (room-length c.args.z (spare_only c.args.spare.now) c.requires.chip.limits c.requires.order_value _ c.blank_column-old.ensures)
+slice_bounds-old_column-end c =
+    sym (room-length c.args.z (spare_only c.args.spare.now) c.requires.chip.limits c.requires.listed.order_is _ c.blank_column-old.ensures)
 
-pub old_column-requires : goal.old_column-requires
-old_column-requires c = let q = c.requires in record {
-  chip = q.chip;
-  spare_value = q.spare_value;
-  order_value = q.order_value;
-  copies_value = q.copies_value.0;
-  out_len = room-length c.args.z (spare_only c.args.spare.now) q.chip.limits q.order_value _ c.blank_column-old.ensures;
-}
+pub old_column-requires-clause-out_len : goal.old_column-requires-clause-out_len
+old_column-requires-clause-out_len c =
+    let q = c.requires in
+    room-length c.args.z (spare_only c.args.spare.now) q.chip.limits q.listed.order_is _ c.blank_column-old.ensures
 
-pub slice_bounds-old-end-2 : goal.slice_bounds-old-end-2
-slice_bounds-old-end-2 c = let z = c.args.z in let d = spare_only c.args.spare.now in
-    column_fits z d (is_old_copy z d) c.requires.order_value c.blank_column-old.result c.old_column.ensures
-
-pub slice_bounds-gather-end : goal.slice_bounds-gather-end
-slice_bounds-gather-end c = let z = c.args.z in let d = spare_only c.args.spare.now in
-    sym (again-length z d (is_old_copy z d) c.requires.order_value c.blank_column-old.result c.old_column.ensures)
-
-pub gather-first-requires : goal.gather-first-requires
-gather-first-requires c = let q = c.requires in let z = c.args.z in let d = spare_only c.args.spare.now in let o = q.order_value in
+pub gather-first-requires-clause-order_len_bound : goal.gather-first-requires-clause-order_len_bound
+gather-first-requires-clause-order_len_bound c =
+    let q = c.requires in
+    let z = c.args.z in
+    let d = spare_only c.args.spare.now in
+    let o = q.listed.order_is in
     let old = column_again z d (is_old_copy z d) o c.blank_column-old.result c.old_column.ensures in
-    let first = ap (λ (l : List ℕ). length (picked l c.args.order.now)) old ∙ ap length (listed z d o (is_old_copy z d)) ∙ ap length (picked_old z d q.chip.limits (formed_of z d q.spare_value)) in
-    record {
-      column_len = again-length z d (is_old_copy z d) o c.blank_column-old.result c.old_column.ensures;
-      order_len_bound = omega (arith, ap length c.buckets-spent.ensures, first, gc_fits z d, q.chip.limits.ledger_in, q.chip.limits.c_high);
-    }
+    let first = ap (λ (l : List ℕ). length (picked l c.args.columns.order.now)) old ∙ ap length (listed z d o (is_old_copy z d)) ∙ ap length (picked_old z d q.chip.limits (formed_of z d q.spare_value)) in
+    omega (arith, ap length c.buckets-spent.ensures, first, gc_fits z d, q.chip.limits.ledger_in, q.chip.limits.c_high)
 
-pub gather-second-requires : goal.gather-second-requires
-gather-second-requires c = let q = c.requires in let z = c.args.z in let d = spare_only c.args.spare.now in let o = q.order_value in
+pub gather-second-requires-clause-order_len_bound : goal.gather-second-requires-clause-order_len_bound
+gather-second-requires-clause-order_len_bound c =
+    let q = c.requires in
+    let z = c.args.z in
+    let d = spare_only c.args.spare.now in
+    let o = q.listed.order_is in
     let formed = formed_of z d q.spare_value in
     let first = first_is z d o q.chip.limits formed c.old_column.ensures c.blank_column-old.result c.buckets-spent.ensures c.gather-first.ensures in
-    record {
-      column_len = column-length z d (is_dropped_copy z d) o q.copies_value.1;
-      order_len_bound = omega (arith, ap length first, length-append (spent z d) (old_copies z d), ap length (copies-listed z d o q.chip.limits formed q.copies_value.1), gc_fits z d, q.chip.limits.ledger_in, q.chip.limits.c_high);
-    }
+    omega (arith, ap length first, length-append (spent z d) (old_copies z d), ap length (copies-listed z d o q.chip.limits formed q.listed.dropped_copies_are), gc_fits z d, q.chip.limits.ledger_in, q.chip.limits.c_high)
 
-pub gather-requires : goal.gather-requires
-gather-requires c = let q = c.requires in let z = c.args.z in let d = spare_only c.args.spare.now in let o = q.order_value in
+pub gather-requires-clause-order_len_bound : goal.gather-requires-clause-order_len_bound
+gather-requires-clause-order_len_bound c =
+    let q = c.requires in
+    let z = c.args.z in
+    let d = spare_only c.args.spare.now in
+    let o = q.listed.order_is in
     let formed = formed_of z d q.spare_value in
     let first = first_is z d o q.chip.limits formed c.old_column.ensures c.blank_column-old.result c.buckets-spent.ensures c.gather-first.ensures in
-    record {
-      column_len = column-length z d (is_dropped_write z d) o q.dropped_writes_value;
-      order_len_bound = omega (
-        arith,
-        ap length c.gather-second.ensures,
-        length-append (list_of c.gather-first.result) (picked c.args.dropped_copies.now c.args.order.now),
-        ap length first,
-        length-append (spent z d) (old_copies z d),
-        ap length (copies-listed z d o q.chip.limits formed q.copies_value.1),
-        ap length (writes-listed z d o q.chip.limits formed q.dropped_writes_value),
-        gc_fits z d,
-        q.chip.limits.ledger_in,
-        q.chip.limits.c_high,
-      );
-    }
+    omega (
+      arith,
+      ap length c.gather-second.ensures,
+      length-append (list_of c.gather-first.result) (picked c.args.columns.dropped_copies.now c.args.columns.order.now),
+      ap length first,
+      length-append (spent z d) (old_copies z d),
+      ap length (copies-listed z d o q.chip.limits formed q.listed.dropped_copies_are),
+      ap length (writes-listed z d o q.chip.limits formed q.listed.dropped_writes_are),
+      gc_fits z d,
+      q.chip.limits.ledger_in,
+      q.chip.limits.c_high,
+    )
 
 pub returns : goal.returns
-returns c = let q = c.requires in let z = c.args.z in let d = spare_only c.args.spare.now in let o = q.order_value in
+returns c =
+    let q = c.requires in
+    let z = c.args.z in
+    let d = spare_only c.args.spare.now in
+    let o = q.listed.order_is in
     let formed = formed_of z d q.spare_value in
     let first = first_is z d o q.chip.limits formed c.old_column.ensures c.blank_column-old.result c.buckets-spent.ensures c.gather-first.ensures in
     c.gather.ensures
-    ∙ rw (c.gather-second.ensures, first, copies-listed z d o q.chip.limits formed q.copies_value.1, writes-listed z d o q.chip.limits formed q.dropped_writes_value) (append_assoc (spent z d ++ old_copies z d) (dropped_copies z d) (dropped_writes z d))
+    ∙ rw (c.gather-second.ensures, first, copies-listed z d o q.chip.limits formed q.listed.dropped_copies_are, writes-listed z d o q.chip.limits formed q.listed.dropped_writes_are) (append_assoc (spent z d ++ old_copies z d) (dropped_copies z d) (dropped_writes z d))
     ∙ append_assoc (spent z d) (old_copies z d) (dropped_copies z d ++ dropped_writes z d) ∙ gc_is z d

@@ -9,7 +9,7 @@ use Rattle.rescue.proofs.Reached.{Reached}
 use Rattle.rescue.proofs.rescue_each.Given as goal
 
 abbrev pub invariant-loop-b : goal.invariant-loop-b
-invariant-loop-b l = (l.b ≤ l.end) × (length l.disk ≡ disk_size l.z) × Reached l.z l.flash l.spare l.initial.disk l.initial.run l.b l.disk l.run
+invariant-loop-b l = (l.b ≤ l.end) × (length l.disk ≡ disk_size l.z) × Reached l.z l.flash l.spare l.initial.disk l.initial.left l.b l.disk l.left
     × (l.b < l.end → is_rescued l.z (device l.flash l.spare l.initial.disk) l.b ≡ true)
 
 abbrev pub decreases-loop-b : goal.decreases-loop-b

@@ -1,11 +1,14 @@
-use Rattle.meter.specs.Run.{running}
-use Rattle.geometry.specs.Geometry.{device}
+use Rattle.meter.specs.Lent.{run_of}
+use Rattle.meter.proofs.Stays.{stays_on}
 use Rattle.sweep.proofs.Erases.{sweep_run}
 use Rattle.sweep.proofs.sweep.Goals as goal
 use Rattle.std.proofs.Common.{sym}
 
-pub returns-clause-result_after : goal.returns-clause-result_after
-returns-clause-result_after c = let a = c.args in
-    let d = device a.flash.now a.spare.now a.disk.now in
-    rw (c.erase_bucket.ensures.result_after, c.erase_bucket-half.ensures.result_after, c.erase_marked-cleared.ensures.result_after, c.body-lower.ensures)
-    (sym (sweep_run a.z d (running a.flash.now a.spare.now a.disk.now a.meter)))
+pub returns : goal.returns
+returns c =
+    let before = run_of c.args.run.now in
+    let marked = c.erase_marked.ensures in
+    record {
+      after = rw (c.erase-2.ensures.after, c.erase.ensures.after, marked.after, c.body-lower.ensures) (sym (sweep_run c.args.z before.device before));
+      stays = stays_on _ _ _ _ marked.stays (stays_on _ _ _ _ c.erase.ensures.stays c.erase-2.ensures.stays);
+    }

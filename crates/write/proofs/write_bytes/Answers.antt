@@ -1,4 +1,4 @@
-use mathlib.Core.Path.{refl}
+use mathlib.Core.Path.{refl, sym}
 use Rattle.model.specs.Operations.{write}
 use Rattle.model.specs.Calls.{write_call, sizes_of, lent_buffer, read_buffer, done_answer}
 use Rattle.outcome.proofs.Ends.{step_left, step-handed}
@@ -8,15 +8,17 @@ use Rattle.write.proofs.write_bytes.Goals as goal
 
 pub finish-requires : goal.finish-requires
 unfolding sizes_of
-finish-requires c = let whole = c.whole-whole in
-    let write-log = c.write_log-turn in
+finish-requires c =
     let a = c.args in
-    step_left a.allowance (write_call a.b a.offset a.bytes.now) a.s (places_of a.s) (device a.flash.now a.spare.now a.disk.now) (write a.s.sizes a.b a.offset a.bytes.now) (rw whole.ensures at write-log.ensures.result_after)
+    step_left a.allowance (write_call a.b a.offset a.bytes.now) a.s (places_of a.s) (device a.flash.now a.spare.now a.disk.now) (write a.s.sizes a.b a.offset a.bytes.now) (rw c.whole.ensures at c.write_log-state.ensures.after)
 
 pub returns : goal.returns
 unfolding sizes_of done_answer lent_buffer read_buffer
-returns c = let whole = c.whole-whole in
-    let write-log = c.write_log-turn in
+returns c =
     let a = c.args in
-    rw c.finish.ensures
-    (step-handed a.allowance (write_call a.b a.offset a.bytes.now) a.s (places_of a.s) (device a.flash.now a.spare.now a.disk.now) (write a.s.sizes a.b a.offset a.bytes.now) (rw whole.ensures at write-log.ensures.result_after) refl refl)
+    let stays = c.write_log-state.ensures.stays in
+    let flash = c.flash-1.given.1.1 (sym stays.flash) in
+    let spare = c.spare-1.given.1.1 (sym stays.spare) in
+    let disk = c.disk-1.given.1.1 (sym stays.disk) in
+    rw (flash, spare, disk, c.finish.ensures)
+    (step-handed a.allowance (write_call a.b a.offset a.bytes.now) a.s (places_of a.s) (device a.flash.now a.spare.now a.disk.now) (write a.s.sizes a.b a.offset a.bytes.now) (rw c.whole.ensures at c.write_log-state.ensures.after) refl refl)

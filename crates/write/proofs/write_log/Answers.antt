@@ -5,12 +5,12 @@ use Rattle.steps.proofs.Inside.{cache_inside}
 use Rattle.state.specs.View.{places_of}
 use Rattle.queue.specs.View.{entries_of}
 use Rattle.geometry.proofs.Passed.{products}
-use Rattle.geometry.specs.Geometry.{device}
 use Rattle.model.specs.Operations.{fits, write}
 use Rattle.model.specs.Sizes.{bucket_size, pages_for, body}
 use Rattle.model.proofs.Limits.{on_chip}
 use Rattle.steps.specs.Turns.{after}
-use Rattle.meter.specs.Run.{running}
+use Rattle.meter.specs.Lent.{run_of}
+use Rattle.meter.proofs.Stays.{stays_on}
 use lib.ListN.{length}
 use native.Mathlib.Omega.{arith}
 use mathlib.Core.Bool.{true, false}
@@ -50,10 +50,10 @@ returns-then-fits c = let fitted = c.fits in
     let start = c in
     let a = start.args in
     let z = a.s.sizes in
-    let d = device a.flash.now a.spare.now a.disk.now in
+    let d = (run_of a.run.now).device in
     let pages = pages_for z (length a.bytes.now) in
     let fitting : fits z d a.b pages (places_of a.s) ≡ true = rw (fitted.ensures, kept_fits_lem z d a.b pages (places_of a.s) (start.requires.writes.counts a.b)) at if1.true in
-    record { result_after = rw fitting c.append_log.ensures.result_after; lent_2 = c.append_log.ensures.lent_2 }
+    record { after = rw fitting c.append_log.ensures.after; stays = c.append_log.ensures.stays }
 
 pub make_way-way-requires : goal.make_way-way-requires
 make_way-way-requires c = let start = c in
@@ -64,8 +64,8 @@ start_log-requires c = let way_made = c.make_way-way in
     let start = c in
     let a = start.args in
     let made = way_made.ensures in
-    let way = way_left (places_of a.s) a.spare.now start.requires.writes.yields a.b (running a.flash.now a.spare.now a.disk.now a.meter) made.result_after in
-    record { lent = rw way.sizes made.lent_2; starts = write_starts start.requires.writes way }
+    let way = way_left (places_of a.s) a.run.now.spare.now start.requires.writes.yields a.b (run_of a.run.now) made.after in
+    record { lent = rw way.sizes made.stays.lent; starts = write_starts start.requires.writes way }
 
 pub returns : goal.returns
 returns c = let fitted = c.fits in
@@ -74,9 +74,9 @@ returns c = let fitted = c.fits in
     let start = c in
     let a = start.args in
     let z = a.s.sizes in
-    let d = device a.flash.now a.spare.now a.disk.now in
+    let d = (run_of a.run.now).device in
     let pages = pages_for z (length a.bytes.now) in
     let full : fits z d a.b pages (places_of a.s) ≡ false = rw (fitted.ensures, kept_fits_lem z d a.b pages (places_of a.s) (start.requires.writes.counts a.b)) at if1.false in
-    let r = running a.flash.now a.spare.now a.disk.now a.meter in
+    let r = run_of a.run.now in
     let made = way_made.ensures in
-    let started = c.start_log.ensures in record { result_after = written_by (places_of a.s) a.spare.now start.requires.writes.yields a.b r made.result_after a.offset a.bytes.now full started.result_after; lent_2 = rw (way_left (places_of a.s) a.spare.now start.requires.writes.yields a.b r made.result_after).sizes at started.lent_2 }
+    let started = c.start_log.ensures in record { after = written_by (places_of a.s) a.run.now.spare.now start.requires.writes.yields a.b r made.after a.offset a.bytes.now full started.after; stays = stays_on _ _ _ _ made.stays (rw (way_left (places_of a.s) a.run.now.spare.now start.requires.writes.yields a.b r made.after).sizes at started.stays) }
