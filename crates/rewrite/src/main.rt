@@ -1,7 +1,7 @@
 // The rewriting program: the text of a chip image from standard input, written again to standard output.
 #![tactic(auto)]
 
-ghost use Rattle.std.specs.Prelude.{◌≡◌, true, [], ◌∷◌, ◌++◌, ◌-◌, ◌≤◌, length, take, IfSome};
+ghost use Rattle.std.specs.Prelude.{◌≡◌, true, [], ◌∷◌, ◌++◌, ◌-◌, ◌≤◌, length, take, IfOk};
 ghost use Rattle.lists.specs.Lists.{all, splice, part};
 ghost use Rattle.model.specs.Tests.{first_failed, number};
 ghost use Rattle.model.specs.Sizes.{limits, flash_size, spare_size};
@@ -10,6 +10,7 @@ ghost use Rattle.model.specs.Mail.{text_fault, text_of, image_of};
 ghost use Rattle.rewrite.specs.Rewrite.{sizes_line, first_tests, no_chip, rewritten_text, rewritten};
 
 use model::{Refusal, Sizes};
+use std::io;
 use streams::Streams;
 
 // The digits of the first line, and the line with its line feed.
@@ -146,29 +147,26 @@ fn rewrite(text: &mut [u8], end: usize, flash: &mut [u8], spare: &mut [u8]) -> u
     rewrite_text(z, text, from, end, flash, spare)
 }
 
-// How many bytes were read until the input ended or the buffer was full: what stands beyond cannot change the output. None where a read failed.
-fn read_input(streams: &mut Streams, text: &mut [u8]) -> Option<usize>
-    ensures { IfSome result (λ count. count ≤ length text.new) }
+// How many bytes were read until the input ended or the buffer was full: what stands beyond cannot change the output.
+fn read_input(streams: &mut Streams, text: &mut [u8]) -> io::Result<usize>
+    ensures { IfOk result (λ count. count ≤ length text.new) }
 {
     let mut count = 0;
     // no `for`: each step is as long as what was read
     while count < text.len() {
-        let got = streams::read_piece(streams, &mut text[count..]);
-        if got.ended {
-            return Some(count);
+        let more = streams::read_piece(streams, &mut text[count..])?;
+        if more == 0 {
+            return Ok(count);
         }
-        if got.count == 0 {
-            return None;
-        }
-        count += got.count;
+        count += more;
     }
-    Some(count)
+    Ok(count)
 }
 
 // A refusal goes to standard error too: behind a pipe nobody sees the output.
 fn put_output(streams: &mut Streams, text: &[u8]) {
-    if streams::write_out(streams, text) < text.len() {
-        streams::fail(streams, b"rewrite: standard output");
+    if let Err(unwritten) = streams::write_out(streams, text) {
+        streams::fail(streams, b"rewrite: standard output", &unwritten.error);
     }
     if text.len() == REFUSAL {
         streams::say(streams, b"rewrite: refused: ");
@@ -180,12 +178,13 @@ fn put_output(streams: &mut Streams, text: &[u8]) {
 fn run(streams: &mut Streams, text: &mut [u8], flash: &mut [u8], spare: &mut [u8])
     requires { (length text.old ≡ 2738234) × (length flash.old ≡ 1048576) × (length spare.old ≡ 262144) }
 {
-    let Some(end) = read_input(streams, text) else {
-        streams::fail(streams, b"rewrite: standard input");
-        return;
-    };
-    let length = rewrite(text, end, flash, spare);
-    put_output(streams, &text[..length]);
+    match read_input(streams, text) {
+        Ok(end) => {
+            let length = rewrite(text, end, flash, spare);
+            put_output(streams, &text[..length]);
+        }
+        Err(error) => streams::fail(streams, b"rewrite: standard input", &error),
+    }
 }
 
 // The arrays as slices of their lengths.

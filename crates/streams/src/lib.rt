@@ -3,34 +3,31 @@
 
 mod reason;
 
-ghost use Rattle.std.specs.Prelude.{◌≡◌, true, false, ◌<◌, ◌≤◌, length, IsSome};
+ghost use Rattle.std.specs.Prelude.{◌≡◌, true, ◌<◌, ◌≤◌, length, IfOk, IfErr};
 
 use std::io::{Error, ErrorKind, Read, Stderr, Stdin, Stdout, Write};
 use std::{io, thread};
 
-// The program's streams, and why the last call that failed did.
+// The program's streams.
 #[derive(Drop)]
 pub struct Streams {
     input: Stdin,
     output: Stdout,
     errors: Stderr,
-    pub failure: Option<Error>,
 }
 
-// What a read gave: so many bytes or the end of the input; neither where it failed.
-#[derive(Clone, Copy)]
-pub struct Got {
-    pub count: usize,
-    pub ended: bool,
+// How many characters were written before the output failed, and why it did.
+#[derive(Drop)]
+pub struct Unwritten {
+    pub written: usize,
+    pub error: Error,
 }
 
-// No call has failed yet.
 pub fn open(rt: &HostRuntime) -> Streams {
     Streams {
         input: rt.stdin(),
         output: rt.stdout(),
         errors: rt.stderr(),
-        failure: None,
     }
 }
 
@@ -53,10 +50,10 @@ fn again(answer: &io::Result<usize>, tries: u64) -> bool
     }
 }
 
+// How many bytes were read: none at the end of the input.
 // A proved loop has to end, and nothing says that the other side will be ready: the loop counts its tries down. A `for` would need an answer behind its end.
-pub fn read_piece(streams: &mut Streams, piece: &mut [u8]) -> Got
-    ensures count { (result.count ≤ length piece.new) × (result.ended ≡ true → result.count ≡ 0) }
-    ensures reason { result.count ≡ 0 → result.ended ≡ false → IsSome streams.new.failure }
+pub fn read_piece(streams: &mut Streams, piece: &mut [u8]) -> io::Result<usize>
+    ensures { IfOk result (λ count. count ≤ length piece.new) }
 {
     let mut got = streams.input.read(piece);
     let mut tries = u64::MAX;
@@ -64,24 +61,12 @@ pub fn read_piece(streams: &mut Streams, piece: &mut [u8]) -> Got
         got = streams.input.read(piece);
         tries -= 1;
     }
-    match got {
-        Ok(count) => Got {
-            count,
-            ended: count == 0,
-        },
-        Err(error) => {
-            streams.failure = Some(error);
-            Got {
-                count: 0,
-                ended: false,
-            }
-        }
-    }
+    got
 }
 
-// One write, of some of the text; of none where the output failed.
-fn write_some(streams: &mut Streams, text: &[u8]) -> usize
-    ensures { result ≤ length text.now }
+// One write, of some of the text.
+fn write_some(streams: &mut Streams, text: &[u8]) -> io::Result<usize>
+    ensures { IfOk result (λ put. put ≤ length text.now) }
 {
     let mut put = streams.output.write(text);
     let mut tries = u64::MAX;
@@ -89,29 +74,26 @@ fn write_some(streams: &mut Streams, text: &[u8]) -> usize
         put = streams.output.write(text);
         tries -= 1;
     }
-    match put {
-        Ok(count) => count,
-        Err(error) => {
-            streams.failure = Some(error);
-            0
-        }
-    }
+    put
 }
 
-// How many characters of the text were written: all, unless the output failed.
-pub fn write_out(streams: &mut Streams, text: &[u8]) -> usize
-    ensures { result ≤ length text.now }
+// All of the text, unless the output fails; the system gives no reason where it takes nothing.
+pub fn write_out(streams: &mut Streams, text: &[u8]) -> Result<(), Unwritten>
+    ensures { IfErr result (λ unwritten. unwritten.written < length text.now) }
 {
     let mut written = 0;
     // no `for`: each step is as long as what was written
     while written < text.len() {
-        let put = write_some(streams, &text[written..]);
-        if put == 0 {
-            return written;
+        match write_some(streams, &text[written..]) {
+            Ok(0) => {
+                let error = Error::new(ErrorKind::WriteZero, "");
+                return Err(Unwritten { written, error });
+            }
+            Ok(put) => written += put,
+            Err(error) => return Err(Unwritten { written, error }),
         }
-        written += put;
     }
-    written
+    Ok(())
 }
 
 // Says on standard error, of which nothing more can be said where that fails too.
@@ -121,12 +103,10 @@ pub fn say(streams: &Streams, words: &[u8]) {
 }
 
 // Says what failed, and why.
-pub fn fail(streams: &Streams, what: &[u8]) {
+pub fn fail(streams: &Streams, what: &[u8], error: &Error) {
     say(streams, what);
     say(streams, b": ");
-    if let Some(error) = &streams.failure {
-        let reason = reason::reason_of(error);
-        say(streams, reason.words());
-    }
+    let reason = reason::reason_of(error);
+    say(streams, reason.words());
     say(streams, b"\n");
 }

@@ -2,6 +2,7 @@
 use mathlib.Core.Path.{◌≡◌, refl}
 use mathlib.Core.List.{List, [], ◌∷◌, ◌++◌}
 use Prim.Native.Nat.{ℕ}
+use Rattle.std.specs.Prelude.{Option, None, Some, MatchOption}
 use Rattle.model.specs.Driving.{output}
 use Rattle.input.specs.declared.Walk.{Walk}
 use Rattle.input.specs.Ahead.{ahead, Sound}
@@ -23,6 +24,11 @@ set_out w line buffer flash spare disk out s none = record { sound = s; none = n
 pub further : (from here to : Place) → Reached from here → (written : ℕ) (bytes : List ℕ) → Walked here bytes written to → Reached from to
 further from here to reached written bytes way =
     record { legs = reached.legs ++ (record { piece = bytes; text = way.text; to = _ } ∷ []); ways = ways_on from _ _ reached.legs bytes way.text reached.ways way.way }
+
+-- what holds where there is nothing, and nothing there is
+pub where_none : {X P : Type 0} (Q : X → Type 0) (o : Option X) → ((x : X) → o ≡ Some x → ⊥) → MatchOption o P Q → P
+where_none Q None f p = p
+where_none Q (Some x) f q = absurd (f x refl)
 
 -- from the start of the input
 module _ (from to : Place) (start : (input : List ℕ) → from input ≡ output input) where

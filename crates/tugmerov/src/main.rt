@@ -1,7 +1,7 @@
 // The driving program: lines from standard input, and what is printed of each to standard output.
 #![tactic(auto)]
 
-ghost use Rattle.std.specs.Prelude.{◌≡◌, true, false, ◌<◌, ◌≤◌, length, take, replicate, if◌then◌else◌};
+ghost use Rattle.std.specs.Prelude.{◌≡◌, ◌<◌, ◌≤◌, length, take, replicate, nat_eq, if◌then◌else◌, IfOk, IfErr, MatchOption};
 ghost use Rattle.model.specs.Driving.{output};
 ghost use Rattle.calls.specs.Arrays.{most_read};
 ghost use Rattle.drive.specs.Recorder.{longest_text};
@@ -10,23 +10,33 @@ ghost use Rattle.input.specs.Ways.{Begun, Walked, Closed};
 ghost use Rattle.tugmerov.specs.Whole.{Reached, Ended, Whole};
 
 use input::Walk;
-use streams::{Got, Streams};
+use std::io::Error;
+use streams::Streams;
 
 // The bytes that are held of a line: any longer one is F0, whatever follows.
 const LINE_ROOM: usize = 513;
 
-// How far the program has come, and how many characters `write` took on the way: by their number the contracts say which they were.
-#[derive(Clone, Copy)]
+// How far the program has come, and how many characters `write` took on the way: by their number the contracts say which they were. And why the output
+// failed, where it did.
+#[derive(Drop)]
 struct Told {
     walk: Walk,
     written: usize,
+    failure: Option<Error>,
 }
 
-// Where the program stopped, and whether at the end of the input.
-#[derive(Clone, Copy)]
+// The stream that failed, and why.
+#[derive(Drop)]
+enum Failure {
+    Input(Error),
+    Output(Error),
+}
+
+// Where the program stopped, at the end of the input unless a stream failed.
+#[derive(Drop)]
 struct Came {
     walk: Walk,
-    ended: bool,
+    stop: Result<(), Failure>,
 }
 
 // The lines of a piece are answered before the next is read: someone may wait for the answers. Where the output fails the walk ends, with characters
@@ -47,37 +57,52 @@ fn walk_piece(
     ensures sound_2 { Sound result.walk line.new buffer.new flash.new spare.new disk.new out.new }
     ensures begun { Begun (ahead w line.old flash.old spare.old disk.old out.old) piece.now result.written }
     ensures walked { result.walk.printed ≡ 0 → Walked (ahead w line.old flash.old spare.old disk.old out.old) piece.now result.written (ahead result.walk line.new flash.new spare.new disk.new out.new) }
+    ensures failed { MatchOption result.failure (result.walk.printed ≡ 0) (λ _. 0 < result.walk.printed) }
 {
     let mut walk = w;
     let mut written = 0;
     walk.passed = 0;
     // no `for`: each step is as long as what was walked
-    while walk.passed < piece.len() && walk.printed == 0 {
+    while walk.passed < piece.len() {
         walk = input::advance(walk, piece, line, buffer, flash, spare, disk, out);
         let printed = walk.printed;
-        let put = streams::write_out(streams, &out[..printed]);
-        walk.printed = printed - put;
-        written += put;
+        if let Err(unwritten) = streams::write_out(streams, &out[..printed]) {
+            let put = unwritten.written;
+            walk.printed = printed - put;
+            written += put;
+            let failure = Some(unwritten.error);
+            return Told {
+                walk,
+                written,
+                failure,
+            };
+        }
+        walk.printed = 0;
+        written += printed;
     }
-    Told { walk, written }
+    Told {
+        walk,
+        written,
+        failure: None,
+    }
 }
 
 // How many bytes of the piece are there to be walked: those that were read or, at the end of the input, what closes it.
-fn closed(got: Got, held: usize, piece: &mut [u8]) -> usize
-    requires { (1 ≤ length piece.old) × (got.count ≤ length piece.old) }
-    ensures { (take result piece.new ≡ (if got.ended then closer held else take got.count piece.old)) × (result ≤ length piece.new) }
+fn closed(count: usize, held: usize, piece: &mut [u8]) -> usize
+    requires { (1 ≤ length piece.old) × (count ≤ length piece.old) }
+    ensures { (take result piece.new ≡ (if nat_eq count 0 then closer held else take count piece.old)) × (result ≤ length piece.new) }
 {
-    if got.ended {
+    if count == 0 {
         return input::closing(held, piece);
     }
-    got.count
+    count
 }
 
 // What was read is walked, and at the end of the input the line that lacks its line feed.
 fn turn(
     streams: &mut Streams,
     w: Walk,
-    got: Got,
+    count: usize,
     piece: &mut [u8],
     line: &mut [u8],
     buffer: &mut [u8],
@@ -87,13 +112,14 @@ fn turn(
     out: &mut [u8],
 ) -> Told
     requires sound { Sound w line.old buffer.old flash.old spare.old disk.old out.old × (w.printed ≡ 0) }
-    requires piece_len { (length piece.old ≡ 65536) × (got.count ≤ 65536) × (length out.old ≡ 131072) }
+    requires piece_len { (length piece.old ≡ 65536) × (count ≤ 65536) × (length out.old ≡ 131072) }
     ensures sound_2 { Sound result.walk line.new buffer.new flash.new spare.new disk.new out.new }
-    ensures begun { Begun (ahead w line.old flash.old spare.old disk.old out.old) (if got.ended then closer w.held else take got.count piece.old) result.written }
-    ensures walked { got.ended ≡ false → result.walk.printed ≡ 0 → Walked (ahead w line.old flash.old spare.old disk.old out.old) (take got.count piece.old) result.written (ahead result.walk line.new flash.new spare.new disk.new out.new) }
-    ensures closed { got.ended ≡ true → result.walk.printed ≡ 0 → Closed (ahead w line.old flash.old spare.old disk.old out.old) result.written (ahead result.walk line.new flash.new spare.new disk.new out.new) }
+    ensures begun { Begun (ahead w line.old flash.old spare.old disk.old out.old) (if nat_eq count 0 then closer w.held else take count piece.old) result.written }
+    ensures walked { 0 < count → result.walk.printed ≡ 0 → Walked (ahead w line.old flash.old spare.old disk.old out.old) (take count piece.old) result.written (ahead result.walk line.new flash.new spare.new disk.new out.new) }
+    ensures closed { count ≡ 0 → result.walk.printed ≡ 0 → Closed (ahead w line.old flash.old spare.old disk.old out.old) result.written (ahead result.walk line.new flash.new spare.new disk.new out.new) }
+    ensures failed { MatchOption result.failure (result.walk.printed ≡ 0) (λ _. 0 < result.walk.printed) }
 {
-    let n = closed(got, w.held, piece);
+    let n = closed(count, w.held, piece);
     walk_piece(
         streams,
         w,
@@ -121,24 +147,38 @@ fn walk_pieces(
 ) -> Came
     requires sound { Sound w line.old buffer.old flash.old spare.old disk.old out.old × (w.printed ≡ 0) }
     requires piece_len { (length piece.old ≡ 65536) × (length out.old ≡ 131072) }
-    ensures reached { result.ended ≡ false → result.walk.printed ≡ 0 → Reached (ahead w line.old flash.old spare.old disk.old out.old) (ahead result.walk line.new flash.new spare.new disk.new out.new) }
-    ensures ended { result.ended ≡ true → result.walk.printed ≡ 0 → Ended (ahead w line.old flash.old spare.old disk.old out.old) (ahead result.walk line.new flash.new spare.new disk.new out.new) }
+    ensures reached { IfErr result.stop (λ _. result.walk.printed ≡ 0 → Reached (ahead w line.old flash.old spare.old disk.old out.old) (ahead result.walk line.new flash.new spare.new disk.new out.new)) }
+    ensures ended { IfOk result.stop (λ _. Ended (ahead w line.old flash.old spare.old disk.old out.old) (ahead result.walk line.new flash.new spare.new disk.new out.new)) }
 {
     let mut walk = w;
     for _ in 0..u64::MAX {
-        let got = streams::read_piece(streams, piece);
+        let count = match streams::read_piece(streams, piece) {
+            Ok(count) => count,
+            Err(error) => {
+                return Came {
+                    walk,
+                    stop: Err(Failure::Input(error)),
+                };
+            }
+        };
         let told = turn(
-            streams, walk, got, piece, line, buffer, flash, spare, disk, out,
+            streams, walk, count, piece, line, buffer, flash, spare, disk, out,
         );
         walk = told.walk;
-        if got.count == 0 || walk.printed > 0 {
+        if let Some(error) = told.failure {
             return Came {
                 walk,
-                ended: got.ended,
+                stop: Err(Failure::Output(error)),
             };
         }
+        if count == 0 {
+            return Came { walk, stop: Ok(()) };
+        }
     }
-    Came { walk, ended: false }
+    Came {
+        walk,
+        stop: Err(Failure::Input(Error::other(""))),
+    }
 }
 
 fn walk_input(
@@ -153,19 +193,19 @@ fn walk_input(
 ) -> Came
     requires piece_len { (length piece.old ≡ 65536) × (length line.old ≡ line_room) × (most_read ≤ length buffer.old) × (length out.old ≡ 131072) }
     requires flash_value { (flash.old ≡ replicate 32768 0) × (spare.old ≡ replicate 32768 0) × (disk.old ≡ replicate 16384 0) }
-    ensures reached { result.ended ≡ false → result.walk.printed ≡ 0 → Reached output (ahead result.walk line.new flash.new spare.new disk.new out.new) }
-    ensures whole { result.ended ≡ true → result.walk.printed ≡ 0 → Whole (ahead result.walk line.new flash.new spare.new disk.new out.new) }
+    ensures reached { IfErr result.stop (λ _. result.walk.printed ≡ 0 → Reached output (ahead result.walk line.new flash.new spare.new disk.new out.new)) }
+    ensures whole { IfOk result.stop (λ _. Whole (ahead result.walk line.new flash.new spare.new disk.new out.new)) }
 {
     let start = input::start();
     walk_pieces(streams, start, piece, line, buffer, flash, spare, disk, out)
 }
 
-// Where the program stopped early standard error says why: the call that failed was the last.
-fn report(streams: &Streams, came: Came) {
-    if came.walk.printed > 0 {
-        streams::fail(streams, b"tugmerov: standard output");
-    } else if !came.ended {
-        streams::fail(streams, b"tugmerov: standard input");
+// Where the program stopped early standard error says why.
+fn report(streams: &Streams, came: &Came) {
+    match &came.stop {
+        Ok(()) => {}
+        Err(Failure::Input(error)) => streams::fail(streams, b"tugmerov: standard input", error),
+        Err(Failure::Output(error)) => streams::fail(streams, b"tugmerov: standard output", error),
     }
 }
 
@@ -188,5 +228,5 @@ fn main(rt: HostRuntime) {
         &mut disk,
         &mut out,
     );
-    report(&streams, came);
+    report(&streams, &came);
 }

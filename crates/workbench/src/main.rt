@@ -10,13 +10,14 @@ mod place;
 mod puts;
 mod shows;
 
-ghost use Rattle.std.specs.Prelude.{◌≡◌, ◌≤◌, length};
+ghost use Rattle.std.specs.Prelude.{◌≡◌, ◌≤◌, length, IfOk};
 ghost use Rattle.calls.specs.Arrays.{Arrays};
 ghost use Rattle.drive.specs.Recorder.{Ready};
 ghost use Rattle.workbench.specs.Bench.{text_room};
 ghost use Rattle.workbench.specs.Walk.{line_room, Sound};
 
 use crate::bench::Bench;
+use std::io::Error;
 use streams::Streams;
 
 // The bytes that are held of a line: any longer one is F0, whatever follows.
@@ -25,19 +26,18 @@ const LINE_ROOM: usize = 8193;
 // The longest text of a line: answer, stores, the length (4) of an image's text and its 131,072 bytes, two digits each, and a line feed.
 const TEXT_ROOM: usize = 262159;
 
-// How far the program has come: the bytes held of a line that is not whole yet, and whether the output failed.
+// How far the program has come, and the bytes held of a line that is not whole yet.
 #[derive(Clone, Copy)]
 struct Walk {
     bench: Bench,
     held: usize,
-    failed: bool,
 }
 
-// Where the program stopped, and whether at the end of the input.
-#[derive(Clone, Copy)]
-struct Came {
-    walk: Walk,
-    ended: bool,
+// The stream that failed, and why.
+#[derive(Drop)]
+enum Failure {
+    Input(Error),
+    Output(Error),
 }
 
 // A whole line is answered before more is read: someone may wait for the answer.
@@ -49,19 +49,19 @@ fn answer(
     spare: &mut [u8],
     disk: &mut [u8],
     out: &mut [u8],
-) -> Walk
+) -> Result<Walk, Failure>
     requires ready { Ready b.recorder.formatted b.recorder.sizes }
     requires arrays { Arrays flash.old spare.old disk.old × (text_room ≤ length out.old) }
-    ensures { Ready result.bench.recorder.formatted result.bench.recorder.sizes × (result.held ≡ 0) }
+    ensures { IfOk result (λ walk. Ready walk.bench.recorder.formatted walk.bench.recorder.sizes × (walk.held ≡ 0)) }
 {
     let answered = bench::on_line(b, line, flash, spare, disk, out);
     let length = answered.length;
-    let written = streams::write_out(streams, &out[..length]);
-    let bench = answered.bench;
-    Walk {
-        bench,
-        held: 0,
-        failed: written < length,
+    match streams::write_out(streams, &out[..length]) {
+        Ok(()) => {
+            let bench = answered.bench;
+            Ok(Walk { bench, held: 0 })
+        }
+        Err(unwritten) => Err(Failure::Output(unwritten.error)),
     }
 }
 
@@ -76,20 +76,16 @@ fn take_bytes(
     spare: &mut [u8],
     disk: &mut [u8],
     out: &mut [u8],
-) -> Walk
+) -> Result<Walk, Failure>
     requires { Sound w line.old flash.old spare.old disk.old out.old }
-    ensures { Sound result line.new flash.new spare.new disk.new out.new }
+    ensures { IfOk result (λ walk. Sound walk line.new flash.new spare.new disk.new out.new) }
 {
     let held = lines::gather(line, w.held, bytes);
     if last {
         return answer(streams, w.bench, &line[..held], flash, spare, disk, out);
     }
     let bench = w.bench;
-    Walk {
-        bench,
-        held,
-        failed: false,
-    }
+    Ok(Walk { bench, held })
 }
 
 // Line by line, to the end of the piece or to a text that could not be written.
@@ -102,14 +98,14 @@ fn walk_piece(
     spare: &mut [u8],
     disk: &mut [u8],
     out: &mut [u8],
-) -> Walk
+) -> Result<Walk, Failure>
     requires { Sound w line.old flash.old spare.old disk.old out.old }
-    ensures { Sound result line.new flash.new spare.new disk.new out.new }
+    ensures { IfOk result (λ walk. Sound walk line.new flash.new spare.new disk.new out.new) }
 {
     let mut walk = w;
     let mut from = 0;
     // no `for`: each step is as long as the line
-    while from < piece.len() && !walk.failed {
+    while from < piece.len() {
         let end = lines::line_end(piece, from);
         let last = end < piece.len();
         walk = take_bytes(
@@ -122,13 +118,13 @@ fn walk_piece(
             spare,
             disk,
             out,
-        );
+        )?;
         from = end + 1;
     }
-    walk
+    Ok(walk)
 }
 
-// Nothing says that the input ends, so the loop counts its turns.
+// To the end of the input, where a line may be held. Nothing says that it ends, so the loop counts its turns.
 fn walk_pieces(
     streams: &mut Streams,
     w: Walk,
@@ -138,15 +134,19 @@ fn walk_pieces(
     spare: &mut [u8],
     disk: &mut [u8],
     out: &mut [u8],
-) -> Came
+) -> Result<Walk, Failure>
     requires { Sound w line.old flash.old spare.old disk.old out.old }
-    ensures { Sound result.walk line.new flash.new spare.new disk.new out.new }
+    ensures { IfOk result (λ walk. Sound walk line.new flash.new spare.new disk.new out.new) }
 {
     let mut walk = w;
-    let mut ended = false;
     for _ in 0..u64::MAX {
-        let got = streams::read_piece(streams, piece);
-        let count = got.count;
+        let count = match streams::read_piece(streams, piece) {
+            Ok(count) => count,
+            Err(error) => return Err(Failure::Input(error)),
+        };
+        if count == 0 {
+            return Ok(walk);
+        }
         walk = walk_piece(
             streams,
             walk,
@@ -156,13 +156,9 @@ fn walk_pieces(
             spare,
             disk,
             out,
-        );
-        ended = got.ended;
-        if count == 0 || walk.failed {
-            break;
-        }
+        )?;
     }
-    Came { walk, ended }
+    Err(Failure::Input(Error::other("")))
 }
 
 // The whole input; the last line may lack its line feed.
@@ -174,34 +170,24 @@ fn walk_input(
     spare: &mut [u8],
     disk: &mut [u8],
     out: &mut [u8],
-) -> Came
+) -> Result<(), Failure>
     requires { Arrays flash.old spare.old disk.old × (length line.old ≡ line_room) × (length out.old ≡ text_room) }
 {
     let bench = Bench::start();
-    let start = Walk {
-        bench,
-        held: 0,
-        failed: false,
-    };
-    let came = walk_pieces(streams, start, piece, line, flash, spare, disk, out);
-    let walk = came.walk;
+    let start = Walk { bench, held: 0 };
+    let walk = walk_pieces(streams, start, piece, line, flash, spare, disk, out)?;
     let held = walk.held;
-    if !came.ended | (held == 0) {
-        return came;
+    if held > 0 {
+        answer(streams, walk.bench, &line[..held], flash, spare, disk, out)?;
     }
-    let last = answer(streams, walk.bench, &line[..held], flash, spare, disk, out);
-    Came {
-        walk: last,
-        ended: true,
-    }
+    Ok(())
 }
 
-// Where the program stopped early standard error says why: the call that failed was the last.
-fn report(streams: &Streams, came: Came) {
-    if came.walk.failed {
-        streams::fail(streams, b"workbench: standard output");
-    } else if !came.ended {
-        streams::fail(streams, b"workbench: standard input");
+// Where the program stopped early standard error says why.
+fn report(streams: &Streams, failure: &Failure) {
+    match failure {
+        Failure::Input(error) => streams::fail(streams, b"workbench: standard input", error),
+        Failure::Output(error) => streams::fail(streams, b"workbench: standard output", error),
     }
 }
 
@@ -213,7 +199,7 @@ fn main(rt: HostRuntime) {
     let mut spare = [0u8; drive::FLASH];
     let mut disk = [0u8; drive::DISK];
     let mut out = [0u8; TEXT_ROOM];
-    let came = walk_input(
+    let walked = walk_input(
         &mut streams,
         &mut piece,
         &mut line,
@@ -222,5 +208,7 @@ fn main(rt: HostRuntime) {
         &mut disk,
         &mut out,
     );
-    report(&streams, came);
+    if let Err(failure) = &walked {
+        report(&streams, failure);
+    }
 }

@@ -7,7 +7,7 @@ abbrev pub invariant-loop-walk : goal.invariant-loop-walk
 invariant-loop-walk l =
     let from = ahead l.initial.walk l.initial.line l.initial.flash l.initial.spare l.initial.disk l.initial.out in
     Along l.piece from l.walk l.line l.buffer l.flash l.spare l.disk l.out l.written
-    × (length l.line ≡ length l.initial.line) × (length l.buffer ≡ length l.initial.buffer) × (length l.flash ≡ length l.initial.flash) × (length l.spare ≡ length l.initial.spare) × (length l.disk ≡ length l.initial.disk) × (length l.out ≡ length l.initial.out)
+    × (l.walk.printed ≡ 0) × (length l.line ≡ length l.initial.line) × (length l.buffer ≡ length l.initial.buffer) × (length l.flash ≡ length l.initial.flash) × (length l.spare ≡ length l.initial.spare) × (length l.disk ≡ length l.initial.disk) × (length l.out ≡ length l.initial.out)
 
 abbrev pub decreases-loop-walk : goal.decreases-loop-walk
 decreases-loop-walk l = length l.piece - l.walk.passed
