@@ -64,7 +64,7 @@ fn next_index(x: u16, column: &[u16], from: usize) -> usize
     column.len()
 }
 
-// The Write buckets of b, in the order, as the first places of a lent list; how many they are.
+// The Write buckets of b, in the order, as the first places of a lent list; how many they are. From one place of b to the next, which no `for` counts.
 fn list_writes(b: u16, order: &[u8], writes: &[u16], list: &mut [u8]) -> usize
     requires writes_len { length writes.now ≡ length order.now }
     requires order_in_bounds { length order.now ≤ length list.old }
@@ -192,7 +192,7 @@ fn unwritten_backs(z: Sizes, columns: Columns<'_>, spare: &[u8]) -> [u16; 256]
     unwritten
 }
 
-// The units of every rescued back-end bucket: from each to the next one.
+// The units of every rescued back-end bucket: from each to the next one, which no `for` counts.
 fn rescue_each(
     meter: Meter,
     z: Sizes,

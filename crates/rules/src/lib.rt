@@ -230,7 +230,7 @@ fn fitting_from(z: Sizes, c: usize, spare: &[u8]) -> usize
     requires fitting { Fitting z (spare_only spare.now) c 1 }
     ensures { Fitting z (spare_only spare.now) c result }
 {
-    // (d) it goes on by runs, not by one
+    // no `for`: each step is as long as a run
     let mut k = run_end(z, c, 1, spare);
     while k < z.p {
         if !later_fits_at(z, c, k, spare) {
@@ -418,7 +418,7 @@ fn buckets_fit(z: Sizes, spare: &[u8]) -> bool
     ensures { result ≡ all_below (body z) (bucket_fits z (spare_only spare.now)) }
 {
     let end = geometry::body(z);
-    // (d) it goes on by spans, not by one
+    // no `for`: each step is as long as a span
     let mut bucket = 0;
     while bucket < end {
         let e = span_end(z, bucket, spare);

@@ -1,17 +1,14 @@
 -- Runs of pages: their spare bytes as one run of FF.
-use Prim.Native.Nat.{ℕ, zero, suc, ◌+◌, ◌*◌, ◌/◌, ◌%◌, ◌≤◌, ◌<◌}
+use Prim.Native.Nat.{ℕ, ◌+◌, ◌-◌, ◌*◌, ◌/◌, ◌%◌, ◌≤◌, ◌<◌}
 use mathlib.Core.Path.{◌≡◌, refl, sym, ap, ◌∙◌}
-use mathlib.Core.Bool.{Bool, true, ◌&&◌, and_assoc}
+use mathlib.Core.Bool.{Bool, true, ◌&&◌}
 use mathlib.Core.List.{List, [], ◌∷◌}
 use native.Mathlib.Omega.{arith}
-use lib.ListN.{length, take, drop, get_or, get_or-replicate, take-append-drop, length-drop}
-use lib.Seq.{ext_get_or, drop-drop, length-take-le}
+use lib.ListN.{length, take, drop, get_or, get_or-replicate, take-append-drop}
+use lib.Seq.{ext_get_or, drop-drop}
 use lib.Dec.{eqb}
-use Rattle.std.specs.Str.{bytes_eq}
-use Rattle.std.specs.List.{list_all}
-use Rattle.std.specs.Simd.{first_chunks}
 use Rattle.lists.specs.Lists.{all, all_below, part, same, ff}
-use Rattle.lists.proofs.Tests.{same_truth}
+use Rattle.lists.proofs.Tests.{and_left, and_right, and-true, same_truth}
 use Rattle.lists.proofs.Arrays.{all_append}
 use Rattle.lists.proofs.Rows.{all-below, below_all}
 use Rattle.lists.proofs.Parts.{get_d_part, length-part-fits, length-ff, part-ff}
@@ -36,24 +33,29 @@ unfolding all same
 all_erased [] = refl
 all_erased (x ∷ l) = ap (λ (t : Bool). is_erased x && t) (all_erased l)
 
--- the library's comparison, byte by byte
-pub alike : (l m : List ℕ) → bytes_eq l m ≡ same l m
-unfolding same
-alike [] [] = refl
-alike [] (y ∷ m) = refl
-alike (x ∷ l) [] = refl
-alike (x ∷ l) (y ∷ m) = ap (λ (t : Bool). eqb x y && t) (alike l m)
+-- n bytes more of a run
+pub erased_more : (l : List ℕ) (i n : ℕ) → i + n ≤ length l → all is_erased (drop i l) ≡ (same (part l i n) (ff n) && all is_erased (drop (i + n) l))
+unfolding part
+erased_more l i n h =
+    let here : all is_erased (take n (drop i l)) ≡ same (take n (drop i l)) (ff n) =
+    all_erased (take n (drop i l)) ∙ ap (λ (k : ℕ). same (take n (drop i l)) (ff k)) (length-part-fits l i n h) in
+    ap (all is_erased) (sym (take-append-drop n (drop i l)))
+    ∙ all_append is_erased (take n (drop i l)) (drop n (drop i l))
+    ∙ rw (here, drop-drop n i l)
 
--- a run by its first 128 n bytes, and the rest of it
-pub eights_rest : (n : ℕ) (l : List ℕ) → n * 128 ≤ length l
-    → (list_all (λ eight. bytes_eq eight (ff 128)) (first_chunks 128 n l) && all is_erased (drop (n * 128) l)) ≡ all is_erased l
-eights_rest zero l h = refl
-eights_rest (suc n) l h =
-    let here : bytes_eq (take 128 l) (ff 128) ≡ all is_erased (take 128 l) =
-    alike (take 128 l) (ff 128) ∙ sym (all_erased (take 128 l) ∙ ap (λ (k : ℕ). same (take 128 l) (ff k)) (length-take-le 128 l (omega arith))) in
-    let behind = eights_rest n (drop 128 l) (omega (arith, length-drop 128 l)) in
-    let at : suc n * 128 ≡ 128 + n * 128 = omega arith in
-    rw (at, ← drop-drop (n * 128) 128 l, here, and_assoc, behind) (sym (all_append is_erased (take 128 l) (drop 128 l)) ∙ ap (all is_erased) (take-append-drop 128 l))
+-- a run that is compared up to i, and from an earlier place on to its end
+pub erased_ends : (l : List ℕ) (i last : ℕ) (alike : Bool) → last ≤ i → i ≤ length l → (alike && all is_erased (drop i l)) ≡ all is_erased l
+    → (alike && all is_erased (drop last l)) ≡ all is_erased l
+erased_ends l i last alike low high inv = same_truth _ _
+    (λ h.
+    let n : last + (i - last) ≡ i = omega arith in
+    let behind = sym (erased_more l last (i - last) (omega arith)) ∙ and_right alike (all is_erased (drop last l)) h in
+    let here : all is_erased (drop i l) ≡ true = rw n at (and_right (same (part l last (i - last)) (ff (i - last))) (all is_erased (drop (last + (i - last)) l)) behind) in
+    sym inv ∙ and-true (and_left alike (all is_erased (drop last l)) h) here)
+    (λ h.
+    let start = sym (erased_more l 0 last (omega arith)) ∙ h in
+    let none : 0 + last ≡ last = omega arith in
+    and-true (and_left alike (all is_erased (drop i l)) (inv ∙ h)) (rw none at (and_right (same (part l 0 last) (ff last)) (all is_erased (drop (0 + last) l)) start)))
 
 -- page by page
 pub run_pages : (spare : List ℕ) (page n : ℕ) → (page + n) * 16 ≤ length spare

@@ -2,8 +2,6 @@
 #![tactic(auto)]
 
 ghost use Rattle.std.specs.Prelude.{◌≡◌, ◌&&◌, ◌+◌, ◌*◌, ◌≤◌, eqb, not, length};
-ghost use Rattle.std.specs.List.{list_all};
-ghost use Rattle.std.specs.Str.{bytes_eq};
 ghost use Rattle.lists.specs.Lists.{all_below, same, part, ff};
 ghost use Rattle.model.specs.Spare.{two, four, blank, programmed, kind, ordinal, pages, epoch, back, zeros, entry_tag};
 ghost use Rattle.spare.specs.Fields.{tag, fields, seen, blank_from};
@@ -84,10 +82,18 @@ fn decode(bytes: &[u8]) -> Fields
 }
 
 // Whether two areas hold the same bytes.
+// To the end, whatever differs: that makes wide compares, where `==` stops at each few bytes.
 pub fn equal(a: &[u8], b: &[u8]) -> bool
     ensures { result ≡ same a.now b.now }
 {
-    a == b
+    if a.len() != b.len() {
+        return false;
+    }
+    let mut alike = true;
+    for i in 0..a.len() {
+        alike = alike & (a[i] == b[i]);
+    }
+    alike
 }
 
 // Whether these are the spare bytes of an erased page.
@@ -98,20 +104,36 @@ pub fn is_blank(bytes: &[u8]) -> bool
     equal(bytes, erased)
 }
 
-// The same of pages one behind the other, compared with the fixed string eight at a time: few wide compares.
-fn eights_erased(eights: &[[u8; 128]]) -> bool
-    ensures { result ≡ list_all (λ eight. bytes_eq eight (ff 128)) eights.now }
-{
-    eights.iter().all(|eight| *eight == [255; 128])
-}
-
-// The same of any number of pages: eight at a time, and the rest.
-fn all_erased(bytes: &[u8]) -> bool
+// The same of eight pages or more, one behind the other, compared with the fixed string eight at a time: few wide compares.
+// The last eight may be compared in part once more, so that no page is left to be compared by itself.
+fn eights_erased(bytes: &[u8]) -> bool
+    requires { 128 ≤ length bytes.now }
     ensures { result ≡ same bytes.now (ff (length bytes.now)) }
 {
     let erased = [255u8; 128];
-    let (eights, rest) = bytes.as_chunks::<128>();
-    eights_erased(eights) & equal(rest, &erased[..rest.len()])
+    let last = bytes.len() - 128;
+    let mut alike = true;
+    let mut i = 0;
+    // no `for`: each step is eight pages. Chunks and `==` took 20,000 instructions more for a call's look at all spare bytes.
+    while i < last {
+        let end = i + 128;
+        let eight = equal(&bytes[i..end], &erased);
+        alike = alike & eight;
+        i = end;
+    }
+    alike & equal(&bytes[last..], &erased)
+}
+
+// The same of any number of pages.
+fn all_erased(bytes: &[u8]) -> bool
+    ensures { result ≡ same bytes.now (ff (length bytes.now)) }
+{
+    let size = bytes.len();
+    if 128 <= size {
+        return eights_erased(bytes);
+    }
+    let erased = [255u8; 128];
+    equal(bytes, &erased[..size])
 }
 
 // Whether n pages of the spare area are all blank, from this page on.
