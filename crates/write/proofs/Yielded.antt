@@ -16,7 +16,7 @@ use Rattle.model.specs.State.{State, holds, blank_of}
 use Rattle.model.specs.Steps.{◌then◌, nothing, make_room}
 use Rattle.model.specs.Operations.{victim, fits, outgoing, evict_any, make_way, start_log, write}
 use Rattle.model.proofs.Limits.{Limits}
-use Rattle.model.proofs.Write.{victim_in}
+use Rattle.model.proofs.Write.{outgoing_held}
 use Rattle.meter.specs.Run.{Run}
 use Rattle.steps.specs.Turns.{Progress, after}
 use Rattle.steps.specs.Ready.{Ready}
@@ -38,24 +38,7 @@ pub fit_pages : (b n : ℕ) (s : State) → kept_fits b n s ≡ true → n ≤ b
 unfolding kept_fits
 fit_pages b n s h = leb-true n (blank_of b s.writes) (and_right (holds b s.writes) (leb n (blank_of b s.writes)) h)
 
--- what gives way is held
-pub outgoing_held : (z : Sizes) (d : Device) (b v : ℕ) (s : State) → 1 ≤ z.w → outgoing z d b s ≡ Some v → holds v s.writes ≡ true
-unfolding outgoing
-outgoing_held z d b v s some e = go (true_or_false (holds b s.writes)) (true_or_false (leb z.w (length s.writes)))
-  where
-    go : (holds b s.writes ≡ true) ⊎ (holds b s.writes ≡ false) → (leb z.w (length s.writes) ≡ true) ⊎ (leb z.w (length s.writes) ≡ false)
-        → holds v s.writes ≡ true
-    go (inl h) q = let is : Some b ≡ Some v = rw h at e in let same : b ≡ v = cc in rw (← same) h
-    go (inr n) (inl q) =
-        let is : Some (victim z d s.writes) ≡ Some v = rw (n, q) at e in
-        let same : victim z d s.writes ≡ v = cc in
-        rw (← same) (victim_in z d s.writes (omega (arith, leb-true z.w (length s.writes) q)))
-    go (inr n) (inr q) =
-        let is : None ≡ Some v = rw (n, q) at e in
-        let never : ◌≡◌ {A = ℕ} 0 1 = cc in
-        absurd (omega arith)
-
--- if nothing does, the queue has room
+-- if nothing gives way, the queue has room
 pub nobody_room : (z : Sizes) (d : Device) (b : ℕ) (s : State) → outgoing z d b s ≡ None → length s.writes < z.w
 unfolding outgoing
 nobody_room z d b s e = go (true_or_false (holds b s.writes)) (true_or_false (leb z.w (length s.writes)))

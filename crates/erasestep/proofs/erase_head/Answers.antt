@@ -1,3 +1,4 @@
+use borrow.Author.Rules.{rules}
 use mathlib.Core.Path.{refl, sym}
 use Rattle.state.specs.View.{places_of}
 use Rattle.model.specs.Steps.{erase_step}
@@ -17,8 +18,8 @@ unfolding sizes_of lent_buffer read_buffer
 returns c =
     let a = c.args in
     let stays = c.erase_step-state.ensures.stays in
-    let flash = c.flash-1.given.1.1 (sym stays.flash) in
-    let spare = c.spare-1.given.1.1 (sym stays.spare) in
-    let disk = c.disk-1.given.1.1 (sym stays.disk) in
-    rw (flash, spare, disk, c.finish.ensures, c.full_answer-full.ensures)
-    (step-handed a.allowance erase_call a.s (places_of a.s) (device a.flash.now a.spare.now a.disk.now) (erase_step a.s.sizes) (rw c.whole.ensures at c.erase_step-state.ensures.after) refl refl)
+    let flash = sym stays.flash in
+    let spare = sym stays.spare in
+    let disk = sym stays.disk in
+    let ends = step-handed a.allowance erase_call a.s (places_of a.s) (device a.flash.now a.spare.now a.disk.now) (erase_step a.s.sizes) (rw c.whole.ensures at c.erase_step-state.ensures.after) refl refl in
+    search (rules, flash, spare, disk, ends, c.finish.ensures, c.full_answer-full.ensures)

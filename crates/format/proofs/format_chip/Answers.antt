@@ -1,3 +1,4 @@
+use borrow.Author.Rules.{rules}
 use mathlib.Core.Path.{refl, sym}
 use Rattle.geometry.specs.Geometry.{device}
 use Rattle.model.specs.Calls.{format_call, sizes_of, done_answer, lent_buffer, read_buffer}
@@ -19,8 +20,8 @@ returns c =
     let a = c.args in
     let d = device a.flash.now a.spare.now a.disk.now in
     let stays = c.erase_all.ensures.stays in
-    let flash = c.flash-1.given.1.1 (sym stays.flash) in
-    let spare = c.spare-1.given.1.1 (sym stays.spare) in
-    let disk = c.disk-1.given.1.1 (sym stays.disk) in
-    rw (flash, spare, disk, c.finish.ensures, c.formatted-new.ensures)
-    (handed_quiet a.allowance (format_call a.z) a.s (view_of a.s) d (format a.z) refl refl (rw c.whole.ensures at c.erase_all.ensures.after))
+    let flash = sym stays.flash in
+    let spare = sym stays.spare in
+    let disk = sym stays.disk in
+    let ends = handed_quiet a.allowance (format_call a.z) a.s (view_of a.s) d (format a.z) refl refl (rw c.whole.ensures at c.erase_all.ensures.after) in
+    search (rules, flash, spare, disk, ends, c.finish.ensures, c.formatted-new.ensures)

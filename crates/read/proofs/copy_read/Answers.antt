@@ -1,3 +1,4 @@
+use borrow.Author.Rules.{rules}
 use native.Mathlib.Nat.{mul-le-mul}
 use native.Mathlib.Omega.{arith}
 use Prim.Native.Nat.{ℕ}
@@ -77,9 +78,9 @@ returns c = let a = c.args in
     let made = c.make_copy-state.ensures in
     let own = found_some a.b (entries_of c.make_copy-state.result.reads) c.unwrap-copy.result (sym c.find.ensures ∙ c.unwrap-copy.ensures) in
     let stays = made.stays in
-    let flash = c.flash-1.given.1.1 (sym stays.flash) in
-    let spare = c.spare-1.given.1.1 (sym stays.spare) in
-    let disk = c.disk-1.given.1.1 (sym stays.disk) in
-    rw (flash, spare, disk, c.finish.ensures)
-    (handed-read a.allowance a.s d (read_copy z a.b (merged z v d a.b)) (rw c.whole.ensures at made.after) a.b a.offset a.buffer.now
-    (shown c.make_copy-state.new.run.meter.cut made.state_after a.buffer.now a.offset (length a.buffer.now) (rw (c.flash.ensures, ← own.cache) at c.show.ensures)))
+    let flash = sym stays.flash in
+    let spare = sym stays.spare in
+    let disk = sym stays.disk in
+    let ends = handed-read a.allowance a.s d (read_copy z a.b (merged z v d a.b)) (rw c.whole.ensures at made.after) a.b a.offset a.buffer.now
+    (shown c.make_copy-state.new.run.meter.cut made.state_after a.buffer.now a.offset (length a.buffer.now) (rw (c.flash.ensures, ← own.cache) at c.show.ensures)) in
+    search (rules, flash, spare, disk, ends, c.finish.ensures)

@@ -1,4 +1,5 @@
-use Rattle.write.proofs.Yielded.{yields_evicts, outgoing_held}
+use Rattle.model.proofs.Write.{outgoing_held}
+use Rattle.write.proofs.Yielded.{yields_evicts}
 use Rattle.victim.proofs.SameSpare.{same_outgoing}
 use Rattle.steps.specs.Turns.{after}
 use Rattle.state.proofs.Queued.{all_on_chip}

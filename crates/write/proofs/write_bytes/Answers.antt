@@ -1,3 +1,4 @@
+use borrow.Author.Rules.{rules}
 use mathlib.Core.Path.{refl, sym}
 use Rattle.model.specs.Operations.{write}
 use Rattle.model.specs.Calls.{write_call, sizes_of, lent_buffer, read_buffer, done_answer}
@@ -17,8 +18,8 @@ unfolding sizes_of done_answer lent_buffer read_buffer
 returns c =
     let a = c.args in
     let stays = c.write_log-state.ensures.stays in
-    let flash = c.flash-1.given.1.1 (sym stays.flash) in
-    let spare = c.spare-1.given.1.1 (sym stays.spare) in
-    let disk = c.disk-1.given.1.1 (sym stays.disk) in
-    rw (flash, spare, disk, c.finish.ensures)
-    (step-handed a.allowance (write_call a.b a.offset a.bytes.now) a.s (places_of a.s) (device a.flash.now a.spare.now a.disk.now) (write a.s.sizes a.b a.offset a.bytes.now) (rw c.whole.ensures at c.write_log-state.ensures.after) refl refl)
+    let flash = sym stays.flash in
+    let spare = sym stays.spare in
+    let disk = sym stays.disk in
+    let ends = step-handed a.allowance (write_call a.b a.offset a.bytes.now) a.s (places_of a.s) (device a.flash.now a.spare.now a.disk.now) (write a.s.sizes a.b a.offset a.bytes.now) (rw c.whole.ensures at c.write_log-state.ensures.after) refl refl in
+    search (rules, flash, spare, disk, ends, c.finish.ensures)
