@@ -5,19 +5,20 @@ use mathlib.Core.List.{List}
 use Prim.Native.Nat.{ℕ}
 use native.Mathlib.Omega.{arith}
 use borrow.Author.Tests.{eq-eqb}
-use Rattle.std.specs.Prelude.{if◌then◌else◌}
+use Rattle.std.specs.Prelude.{Option, Some, None, MatchOption, is_some, if◌then◌else◌}
 use Rattle.model.specs.declared.Sizes.{Sizes}
 use Rattle.model.specs.Sizes.{limits}
 use Rattle.model.specs.Driving.{Recorder, bytes_of, operation, format_sizes, line_fits, too_large, no_call, format_line, call_line, on_line}
 use Rattle.frame.specs.declared.Request.{Request}
 use Rattle.frame.specs.declared.Request.TheVariants.{Format, Read, Write, Erase, Drain, Recover}
-use Rattle.frame.specs.Request.{frame_request, is_format}
+use Rattle.frame.specs.Request.{request_of, frame_request, is_format}
+use Rattle.frame.proofs.Meaning.{line_asks, line_bad}
 use Rattle.calls.specs.Arrays.{Held}
 use Rattle.drive.specs.Recorder.{Ready, called_line}
 use Rattle.drive.specs.Asking.{format_unmade, unmade, sizes_asked}
 use Rattle.drive.proofs.Held.{held_sizes}
 use Rattle.drive.proofs.Requests.{asked_operation, asked_sizes}
-use Rattle.drive.proofs.Ways.{format_asked, call_asked, limits_broken, beyond_arrays, format_called, unformatted, call_called}
+use Rattle.drive.proofs.Ways.{bad_line, format_asked, call_asked, limits_broken, beyond_arrays, format_called, unformatted, call_called}
 
 -- ---- a call that is made is made at sizes that the arrays have room for
 
@@ -126,3 +127,39 @@ module _ (r : Recorder) (line : List ℕ) (fits : line_fits line ≡ true) where
   line_made (Erase n) e = call-made (Erase n) e refl
   line_made (Drain n) e = call-made (Drain n) e refl
   line_made (Recover n) e = call-made (Recover n) e refl
+
+-- ---- the same of what `asks` tells of a line's request, if it has one
+
+-- number, sizes, and whether it is a format
+abbrev pub Told : (t : Bool) (kept : Sizes) → Option Request → (n : ℕ) (z : Sizes) (format : Bool) → Type 0
+Told t kept o n z format = MatchOption o ((n ≡ 0xF0) × (z ≡ kept) × (format ≡ false)) (λ q. (n ≡ unmade t q) × (z ≡ sizes_asked q kept) × (format ≡ is_format q))
+
+pub request_told : (t : Bool) (kept : Sizes) (o : Option Request) (n : ℕ) (z : Sizes) (format : Bool) → Told t kept o n z format → n ≡ 0 → is_some o ≡ true
+request_told t kept (Some q) n z format told e = refl
+request_told t kept None n z format told e = absurd (omega (arith, told.0, e))
+
+module _ (r : Recorder) (line : List ℕ) where
+  pub line_refused : (o : Option Request) → o ≡ request_of line → (n : ℕ) (z : Sizes) (format : Bool) → Told r.formatted r.sizes o n z format → (n ≡ 0 → ⊥)
+      → on_line r line ≡ no_call n r
+  line_refused None e n z format told k = bad_line r line (line_bad line e) ∙ ap (λ (n : ℕ). no_call n r) (sym told.0)
+  line_refused (Some q) e n z format told k =
+      let asks = line_asks line e in
+      line_unmade r line asks.0 q asks.1 (λ none. k (told.0 ∙ none)) ∙ ap (λ (n : ℕ). no_call n r) (sym told.0)
+
+  pub record Called (q : Request) (z : Sizes) (format : Bool) : Type 0 where
+    pub asks : (line_fits line ≡ true) × (q ≡ frame_request (bytes_of line))
+    pub held : Ready r.formatted r.sizes → Held z
+    pub calls : on_line r line ≡ called_line z format r (bytes_of line)
+
+  pub line_called : (o : Option Request) → o ≡ request_of line → (n : ℕ) (z : Sizes) (format : Bool) → Told r.formatted r.sizes o n z format → n ≡ 0
+      → (q : Request) → o ≡ Some q → Called q z format
+  line_called o e n z format told k q is =
+      let own : Told r.formatted r.sizes (Some q) n z format = rw is at told in
+      let asks = line_asks line (sym is ∙ e) in
+      let none : unmade r.formatted q ≡ 0 = sym own.0 ∙ k in
+      let made = line_made r line asks.0 q asks.1 none in
+      record {
+        asks = asks;
+        held = λ ready. rw own.1 (asked_held r.formatted r.sizes ready q none);
+        calls = made ∙ (ap (λ (y : Sizes). called_line y (is_format q) r (bytes_of line)) (sym own.1) ∙ ap (λ (t : Bool). called_line z t r (bytes_of line)) (sym own.2));
+      }

@@ -1,7 +1,7 @@
 // A line of the driving program: what is printed of it, and the recorder that it leaves.
 #![tactic(auto)]
 
-ghost use Rattle.std.specs.Prelude.{◌≡◌, true, [], ◌+◌, ◌*◌, ◌<◌, ◌≤◌, length, take, if◌then◌else◌};
+ghost use Rattle.std.specs.Prelude.{◌≡◌, true, false, [], ◌+◌, ◌*◌, ◌<◌, ◌≤◌, length, take, MatchOption, if◌then◌else◌};
 ghost use Rattle.model.specs.declared.Answer.TheVariants.{Done};
 ghost use Rattle.model.specs.Tests.{number, number_of};
 ghost use Rattle.model.specs.Calls.{is_done};
@@ -169,7 +169,7 @@ pub struct Asked {
 }
 
 // "02 to 06 before a format that was Done print 030000". A format has sizes of its own.
-pub fn asks(formatted: bool, kept: Sizes, request: Request) -> Asked
+fn frame_asks(formatted: bool, kept: Sizes, request: Request) -> Asked
     ensures { (number result.makes ≡ unmade formatted request) × (result.sizes ≡ sizes_asked request kept) × (result.format ≡ is_format request) }
 {
     match request {
@@ -196,7 +196,21 @@ pub fn asks(formatted: bool, kept: Sizes, request: Request) -> Asked
     }
 }
 
-// The line's text stands at the start of `out`. "F0, before all else". All calls are made at one place, so that the recorder is handed on without a copy of it.
+// "F0, before all else": a line that is no frame has no request.
+pub fn asks(formatted: bool, kept: Sizes, request: Option<Request>) -> Asked
+    ensures { MatchOption request ((number result.makes ≡ 0xF0) × (result.sizes ≡ kept) × (result.format ≡ false)) (λ q. (number result.makes ≡ unmade formatted q) × (result.sizes ≡ sizes_asked q kept) × (result.format ≡ is_format q)) }
+{
+    match request {
+        Some(request) => frame_asks(formatted, kept, request),
+        None => Asked {
+            makes: Err(Refusal::NoFrame),
+            sizes: kept,
+            format: false,
+        },
+    }
+}
+
+// The line's text stands at the start of `out`. All calls are made at one place, so that the recorder is handed on without a copy of it.
 pub fn on_line(
     r: Recorder,
     line: &[u8],
@@ -210,16 +224,14 @@ pub fn on_line(
     ensures out_after { printed_of result flash.new spare.new disk.new out.new ≡ on_line (recorder_of r flash.old spare.old disk.old) line.now }
     ensures ready { Ready result.recorder.formatted result.recorder.sizes × (result.length ≤ length out.new) }
 {
-    let Some(request) = frame::request_of(line) else {
-        return no_call(Refusal::NoFrame, r, out);
-    };
+    let request = frame::request_of(line);
     let asked = asks(r.formatted, r.sizes, request);
     match asked.makes {
         Ok(()) => called_line(
             r,
             asked.sizes,
             asked.format,
-            request,
+            request.unwrap(),
             line,
             buffer,
             flash,

@@ -53,14 +53,15 @@ fn compare_sizes(z: Sizes) -> Tally
     compare_chips(z, &mut flash[..chip], &mut spare[..tags], &mut disk[..end])
 }
 
-// The sizes of a chip, and what was compared on it. What are no sizes is left out.
+// The sizes of a chip, and then what was compared on it. What are no sizes is left out.
 fn compare_chip(mut out: Stdout, z: Sizes) -> io::Result<Tally> {
     if !geometry::limits(z) {
         return Ok(Tally::default());
     }
-    let tally = compare_sizes(z);
     let Sizes { s, p, c, b, .. } = z;
-    writeln!(out, "S {s} P {p} C {c} B {b}: {tally}")?;
+    write!(out, "S {s} P {p} C {c} B {b}")?;
+    let tally = compare_sizes(z);
+    writeln!(out, "{tally}")?;
     Ok(tally)
 }
 
@@ -70,5 +71,5 @@ fn main(rt: HostRuntime) -> io::Result<()> {
     for z in sizes::chips() {
         all = all.and(compare_chip(out, z)?);
     }
-    writeln!(out, "all: {all}")
+    writeln!(out, "all{all}")
 }

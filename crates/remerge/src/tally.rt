@@ -63,12 +63,12 @@ impl fmt::Display for Tally {
         } = *self;
         write!(
             f,
-            "merges {merges}, of no Write bucket {none}, one {one}, several {several}; "
+            ": merges {merges}, of no Write bucket {none}, one {one}, several {several}"
         )?;
         write!(
             f,
-            "abandoned logs {abandoned}; torn erases {torn}; spoiled pages {spoiled}; "
+            "; abandoned logs {abandoned}; torn erases {torn}; spoiled pages {spoiled}"
         )?;
-        write!(f, "bytes {bytes}, differing {differing}")
+        write!(f, "; bytes {bytes}, differing {differing}")
     }
 }

@@ -10,7 +10,10 @@ use crate::spoil::Program;
 use crate::{back, pages, run, spoil, tear};
 use model::{Answer, Sizes};
 use std::io;
-use std::io::{Stdout, Write};
+use std::io::{Cursor, Stdout, Write};
+
+// The characters of a line before its last word.
+const LINE: usize = 17;
 
 // A cut call, and what the restart behind it came to.
 #[derive(Clone, Copy)]
@@ -59,7 +62,8 @@ pub fn letter_of_answer(answer: Answer) -> char {
 }
 
 // The call, its allowance, its answer and stores; the stores of the recovery; the erases that stopped halfway, each set of pages counted; the
-// pages that were spoiled, each way counted; whether each confirmed write is there in every case. Of a number two digits are printed.
+// pages that were spoiled, each way counted; whether each confirmed write is there in every case. Of a number two digits are printed. The line goes
+// out in two writes: its pieces one by one would be as many messages, or fill an output that does not wait.
 fn print(mut out: Stdout, call: Call, allowance: usize, way: Way) -> io::Result<()> {
     let call = letter_of_call(call);
     let answer = letter_of_answer(way.run.answer);
@@ -67,11 +71,13 @@ fn print(mut out: Stdout, call: Call, allowance: usize, way: Way) -> io::Result<
     let again = way.back.stores % 100;
     let torn = way.back.torn % 100;
     let spoiled = way.back.spoiled % 100;
-    let kept = if way.back.kept { "ok" } else { "LOST" };
-    writeln!(
-        out,
-        "{call}{allowance:02} {answer}{stores:02} {again:02} {torn:02} {spoiled:02} {kept}"
-    )
+    let mut line = Cursor::new([0u8; LINE]);
+    write!(
+        line,
+        "{call}{allowance:02} {answer}{stores:02} {again:02} {torn:02} {spoiled:02} "
+    )?;
+    out.write_all(line.get_ref())?;
+    out.write_all(if way.back.kept { b"ok\n" } else { b"LOST\n" })
 }
 
 // The mix, and the call with its allowance.

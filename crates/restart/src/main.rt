@@ -16,7 +16,7 @@ ghost use Rattle.std.specs.Prelude.{◌≤◌};
 
 use model::{Answer, Sizes};
 use std::io;
-use std::io::{Stdout, Write};
+use std::io::{Cursor, Stdout, Write};
 
 // The smallest chip.
 const ONE_PAGE: Sizes = Sizes {
@@ -73,7 +73,9 @@ fn drain_beyond_places(mut out: Stdout) -> io::Result<()> {
     let o = drain::drain(state, 99, &mut flash, &mut spare, &mut disk);
     let letter = cuts::letter_of_answer(o.answer);
     let number = number(o.answer);
-    writeln!(out, "{letter}{number}")
+    let mut line = Cursor::new([0u8; 3]);
+    writeln!(line, "{letter}{number}")?;
+    out.write_all(line.get_ref())
 }
 
 // The cuts on a chip of these sizes.

@@ -91,7 +91,7 @@ pub fn call_line(
 {
     let request = frame::frame_request(line);
     let recorder = b.recorder;
-    let asked = drive::asks(recorder.formatted, recorder.sizes, request);
+    let asked = drive::asks(recorder.formatted, recorder.sizes, Some(request));
     match asked.makes {
         Ok(()) => called_line(
             b,

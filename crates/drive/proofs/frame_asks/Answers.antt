@@ -1,9 +1,9 @@
--- `drive::asks` meets its contract.
+-- `drive::frame_asks` meets its contract.
 use mathlib.Core.Path.{refl}
 use Rattle.frame.specs.Request.{is_format}
 use Rattle.drive.specs.Asking.{unmade, sizes_asked}
 use Rattle.drive.proofs.Requests.{other_request}
-use Rattle.drive.proofs.asks.Goals as goal
+use Rattle.drive.proofs.frame_asks.Goals as goal
 
 pub returns-in-Format : goal.returns-in-Format
 unfolding unmade sizes_asked is_format
