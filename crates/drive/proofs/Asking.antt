@@ -5,7 +5,9 @@ use mathlib.Core.List.{List}
 use Prim.Native.Nat.{ℕ}
 use native.Mathlib.Omega.{arith}
 use borrow.Author.Tests.{eq-eqb}
-use Rattle.std.specs.Prelude.{Option, Some, None, MatchOption, is_some, if◌then◌else◌}
+use Rattle.std.specs.Prelude.{Option, Some, None, MatchOption, is_some, Result, Ok, Err, if◌then◌else◌}
+use Rattle.model.specs.declared.Refusal.{Refusal}
+use Rattle.model.specs.Tests.{number}
 use Rattle.model.specs.declared.Sizes.{Sizes}
 use Rattle.model.specs.Sizes.{limits}
 use Rattle.model.specs.Driving.{Recorder, bytes_of, operation, format_sizes, line_fits, too_large, no_call, format_line, call_line, on_line}
@@ -133,6 +135,11 @@ module _ (r : Recorder) (line : List ℕ) (fits : line_fits line ≡ true) where
 -- number, sizes, and whether it is a format
 abbrev pub Told : (t : Bool) (kept : Sizes) → Option Request → (n : ℕ) (z : Sizes) (format : Bool) → Type 0
 Told t kept o n z format = MatchOption o ((n ≡ 0xF0) × (z ≡ kept) × (format ≡ false)) (λ q. (n ≡ unmade t q) × (z ≡ sizes_asked q kept) × (format ≡ is_format q))
+
+-- no refusal is told
+pub none_told : (r : Result (Unit {0}) Refusal) → ((e : Refusal) → r ≡ Err e → ⊥) → number r ≡ 0
+none_told (Ok passed) h = refl
+none_told (Err e) h = absurd (h e refl)
 
 pub request_told : (t : Bool) (kept : Sizes) (o : Option Request) (n : ℕ) (z : Sizes) (format : Bool) → Told t kept o n z format → n ≡ 0 → is_some o ≡ true
 request_told t kept (Some q) n z format told e = refl

@@ -226,19 +226,19 @@ pub fn on_line(
 {
     let request = frame::request_of(line);
     let asked = asks(r.formatted, r.sizes, request);
-    match asked.makes {
-        Ok(()) => called_line(
-            r,
-            asked.sizes,
-            asked.format,
-            request.unwrap(),
-            line,
-            buffer,
-            flash,
-            spare,
-            disk,
-            out,
-        ),
-        Err(refusal) => no_call(refusal, r, out),
+    if let Err(refusal) = asked.makes {
+        return no_call(refusal, r, out);
     }
+    called_line(
+        r,
+        asked.sizes,
+        asked.format,
+        request.unwrap(),
+        line,
+        buffer,
+        flash,
+        spare,
+        disk,
+        out,
+    )
 }

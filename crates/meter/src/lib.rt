@@ -39,6 +39,8 @@ pub struct Run<'a> {
 
 impl<'a> Run<'a> {
     // After a cut an operation goes on asking, and nothing more is made.
+    // Laid into its callers, where the kind of store is known: a format makes an erase for each bucket of the chip.
+    #[inline(always)]
     pub fn store(&mut self, what: Store, z: Sizes, data: &[u8], tag: &[u8; 16])
         requires lent { LentTo z self.old }
         requires placed { Placed z (made what «data».now tag.now) }
@@ -68,6 +70,7 @@ impl<'a> Run<'a> {
     }
 
     // Erases a bucket of the chip.
+    #[inline(always)]
     pub fn erase(&mut self, z: Sizes, bucket: usize)
         requires lent { LentTo z self.old }
         requires bucket_lt_c { bucket < z.c }

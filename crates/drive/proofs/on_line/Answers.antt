@@ -1,8 +1,8 @@
 -- `drive::on_line` meets its contract.
-use mathlib.Core.Path.{refl, sym, ◌∙◌}
+use mathlib.Core.Path.{sym, ◌∙◌}
 use Rattle.model.specs.Tests.{number_of}
 use Rattle.model.proofs.Refusals.{refused_lem}
-use Rattle.drive.proofs.Asking.{Told, request_told, line_refused, line_called}
+use Rattle.drive.proofs.Asking.{Told, none_told, request_told, line_refused, line_called}
 use Rattle.drive.proofs.Kept.{kept_ready}
 use Rattle.drive.proofs.Texts.{no_call_line}
 use Rattle.drive.specs.Recorder.{recorder_of}
@@ -21,21 +21,20 @@ returns-in-Err c = let a = c.args in
 
 pub unwrap-requires : goal.unwrap-requires
 unwrap-requires c = let a = c.args in
-    let told : Told a.r.formatted a.r.sizes c.request_of-request.result 0 c.asks-asked.result.sizes c.asks-asked.result.format = rw c.in-Ok.is at c.asks-asked.ensures in
-    request_told a.r.formatted a.r.sizes c.request_of-request.result _ _ _ told refl
+    request_told a.r.formatted a.r.sizes c.request_of-request.result _ _ _ c.asks-asked.ensures (none_told c.asks-asked.result.makes c.in_default.not-Err)
 
 pub called_line-requires : goal.called_line-requires
 called_line-requires c = let a = c.args in
     let request = c.request_of-request in
-    let told : Told a.r.formatted a.r.sizes request.result 0 c.asks-asked.result.sizes c.asks-asked.result.format = rw c.in-Ok.is at c.asks-asked.ensures in
-    let line = line_called (recorder_of a.r a.flash.now a.spare.now a.disk.now) a.line.now request.result request.ensures _ _ _ told refl c.unwrap.result c.unwrap.ensures in
+    let none = none_told c.asks-asked.result.makes c.in_default.not-Err in
+    let line = line_called (recorder_of a.r a.flash.now a.spare.now a.disk.now) a.line.now request.result request.ensures _ _ _ c.asks-asked.ensures none c.unwrap.result c.unwrap.ensures in
     record { line_value = line.asks; arrays = (c.requires.0, c.requires.1, line.held c.requires.2) }
 
-pub returns-in-Ok : goal.returns-in-Ok
-returns-in-Ok c = let a = c.args in
+pub returns : goal.returns
+returns c = let a = c.args in
     let r = recorder_of a.r a.flash.now a.spare.now a.disk.now in
     let request = c.request_of-request in
-    let told : Told a.r.formatted a.r.sizes request.result 0 c.asks-asked.result.sizes c.asks-asked.result.format = rw c.in-Ok.is at c.asks-asked.ensures in
-    let line = line_called r a.line.now request.result request.ensures _ _ _ told refl c.unwrap.result c.unwrap.ensures in
+    let none = none_told c.asks-asked.result.makes c.in_default.not-Err in
+    let line = line_called r a.line.now request.result request.ensures _ _ _ c.asks-asked.ensures none c.unwrap.result c.unwrap.ensures in
     let e = c.called_line.ensures.out_after ∙ sym line.calls in
     record { out_after = e; ready = (kept_ready r c.requires.2 a.line.now e, c.called_line.ensures.length_in_bounds) }
