@@ -75,6 +75,7 @@ fn write_unit(z: Sizes, index: usize, data: &[u8], disk: &mut [u8])
 }
 
 // Makes a store. A program takes data and tag, a unit the data alone, an erase neither.
+#[inline(always)]
 pub fn carry_out(
     what: Store,
     z: Sizes,

@@ -24,7 +24,8 @@ impl<'a> Line<'a> {
         }
     }
 
-    // The walk goes on behind the next field, of so many bytes.
+    // The walk goes on behind the next field, of so many bytes. Laid into its callers: a line has four or more.
+    #[inline(always)]
     pub fn next(self, width: usize) -> Line<'a>
         requires { self.at + width < 2 ^ 64 }
         ensures { result ≡ behind self.entry width }
